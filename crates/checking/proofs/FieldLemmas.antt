@@ -1,4 +1,4 @@
--- Fields that a configuration has are found as well where the others are left out.
+-- Fields that a configuration has are found as well if the others are left out.
 use Rattle.std.proofs.Common.{◌≡◌, ℕ, List, [], ◌∷◌, ◌++◌, Bool, true, false, ◌||◌, find, filter, take, drop, codes, refl, ap, ◌∙◌}
 use Rattle.std.specs.Str.{str_eq_ignore_ascii_case}
 use Rattle.para.specs.Field.{FieldValue}
@@ -22,7 +22,7 @@ pub named_alike : (name : List ℕ) → ((other : List ℕ) → str_eq_ignore_as
     → (p : Fields) → field_named name (filter is_known_field p) ≡ field_named name p
 named_alike name known p = found_alike (λ (f : FieldValue). str_eq_ignore_ascii_case f.name name) is_known_field (λ f it. known f.name it) p
 
--- one after the other of these, where none before them is
+-- whether one of these is true, tested one after the other
 abbrev chain : Bool → List Bool → Bool
 chain b [] = b
 chain b (x ∷ xs) = chain (b || x) xs
@@ -39,7 +39,7 @@ chain_there true [] x after it = chain_true after
 chain_there false [] x after it = first_there x after it
 chain_there b (y ∷ before) x after it = chain_there (b || y) before x after it
 
--- whether a name is each of the known ones behind the first
+-- whether a name is each of the known ones after the first
 abbrev others : List ℕ → List Bool
 others other =
     str_eq_ignore_ascii_case other (codes "Suite") ∷ str_eq_ignore_ascii_case other (codes "Origin") ∷ str_eq_ignore_ascii_case other (codes "Label") ∷ str_eq_ignore_ascii_case other (codes "Description") ∷ str_eq_ignore_ascii_case other (codes "Architectures") ∷ str_eq_ignore_ascii_case other (codes "Components") ∷ str_eq_ignore_ascii_case other (codes "AlsoAcceptFor") ∷ str_eq_ignore_ascii_case other (codes "Uploaders") ∷ str_eq_ignore_ascii_case other (codes "KeepDays") ∷ str_eq_ignore_ascii_case other (codes "ValidDays") ∷ []

@@ -1,4 +1,4 @@
--- What is told from arrivals without their bytes is what the book says.
+-- What is found from arrivals without their bytes is what the book says.
 use Rattle.std.proofs.Common.{◌≡◌, ℕ, ◌+◌, ◌<◌, Bool, true, false, ◌&&◌, cond, not, List, [], ◌∷◌, ◌++◌, bytes_eq, drop, filter, find, get_or, length, map, Option, Some, None, option_map, refl, sym, ap, ap₂, ◌∙◌}
 use Rattle.std.specs.List.{list_any}
 use Rattle.std.specs.Option.{option_and_then}
@@ -69,6 +69,6 @@ module _ (arrivals : List Arrival) (entries : List Entry) (i : ℕ) (e : Entry) 
       ∙ ap (λ o. option_map (λ rest. done ++ rest) (option_and_then (λ t. option_map (λ texts. t ∷ texts) (kept_texts arrivals (drop (i + 1) entries))) o)) (sym is)
       ∙ next
 
-  -- where it is not there, they are not all
+  -- if the next text is not there, not all are
   pub kept_none : kept_text arrivals e ≡ None → None ≡ kept_texts arrivals entries
   kept_none is = ap (λ o. option_map (λ rest. done ++ rest) (option_and_then (λ t. option_map (λ texts. t ∷ texts) (kept_texts arrivals (drop (i + 1) entries))) o)) (sym is) ∙ next

@@ -94,7 +94,7 @@ list_back list ms s = by_lines s.lines s.has_lines s.ask
 
 -- ---- the first bad line
 
--- a first bad line of these, behind so many others
+-- the first bad line of these, after `k` others
 record IsFirst (ls : List (List ℕ)) (k number : ℕ) : Type 0 where
   before : List (List ℕ)
   line : List ℕ

@@ -52,7 +52,7 @@ parted-cut : (front rest : List ℕ) → list_any is_space front ≡ false → p
 unfolding parted
 parted-cut front rest h = rw (any-space front rest, before-space front rest h, after-space front rest h) refl
 
--- what stands before and behind the first space of a text
+-- what stands before and after the first space of a text
 record IsCut (text front rest : List ℕ) : Type 0 where
   whole : text ≡ front ++ 32 ∷ rest
   no_space : list_any is_space front ≡ false
@@ -119,7 +119,7 @@ module _ {A : Type 0} (P : A → Type 0) where
   at_some : (r : Option A) (x : A) → IfSome r P → r ≡ Some x → P x
   at_some r x h e = rw e at h
 
--- ---- the words behind a command
+-- ---- the words after a command
 
 two : (text : List ℕ) → IfSome (two_words text) (λ w. IsOneWord w.0 × IsOneWord w.1 × (text ≡ w.0 ++ 32 ∷ w.1))
 unfolding two_words
@@ -156,7 +156,7 @@ removal_asks rest = and_then _ _ (two_words rest) _ (two rest) (λ w k. ((k.0, k
 same : (a b : List ℕ) → bytes_eq a b ≡ true → a ≡ b
 same a b e = (bytes_eq-Decides a b).0 e
 
--- the command is this one, and the rest asks for something behind it
+-- the command is this one, and the rest after it asks for something
 named : (command name rest : List ℕ) (r : Option RequestBytes) → bytes_eq command name ≡ true → IfSome r (Asks name rest) → IfSome r (Asks command rest)
 named command name rest r e h = IfSome_then r h (λ m k. (k.0, ap (λ l. l ++ 32 ∷ rest) (same command name e) ∙ k.1))
 

@@ -35,7 +35,7 @@ parted_is text (Some x) h =
     (λ k. Some (h.1 k, h.2 k))
     ∙ sym (ap (λ b. cond b (Some (before_first is_space text, after_first is_space text)) None) (a_space text h.0))
 
--- ---- bytes that are a text, and bytes that are none
+-- ---- bytes that are a text, and bytes that are not
 
 pub as_text : (line : List ℕ) → IsUtf8 line → command_in line ≡ command_of line
 unfolding command_in

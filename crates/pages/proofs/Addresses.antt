@@ -13,7 +13,7 @@ table : agree_below (should_percent_encode NUMBERED) (λ b. not (is_kept b)) 128
 unfolding should_percent_encode
 table = refl
 
--- the others are none that stays
+-- no other byte stays as it is
 beyond : (b : ℕ) → 128 ≤ b → should_percent_encode NUMBERED b ≡ not (is_kept b)
 unfolding should_percent_encode
 beyond b far = grind (arith, nat_tests)

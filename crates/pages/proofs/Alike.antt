@@ -71,7 +71,7 @@ without a b h k = record { same = h ∙ sym k }
 texts : (s t : List ℕ) → Alike (escaped s) (escaped t)
 texts s t = without (escaped s) (escaped t) (bare s) (bare t)
 
--- behind a text that has none
+-- two texts without markup have none when joined
 bare_behind : (front rest : List ℕ) → markup front ≡ [] → markup rest ≡ [] → markup (front ++ rest) ≡ []
 bare_behind front rest h k =
     filter-append is_markup front rest ∙ ap (λ (ms : List ℕ). ms ++ markup rest) h ∙ k
@@ -158,7 +158,7 @@ unfolding waiting_row
 waiting_rows w v =
     both (both (both (itself (codes "<tr>")) (cells w.name v.name)) (cells w.files v.files)) (itself (codes "</tr>\n"))
 
--- a cell with a constant that hangs on the verdict
+-- a cell with a constant that depends on the verdict
 verdict_cells : (text : Verdict → List ℕ) (v w : Verdict) → v ≡ w → Alike (constant_cell (text v)) (constant_cell (text w))
 verdict_cells text v w h = record { same = ap (λ (x : Verdict). markup (constant_cell (text x))) h }
 

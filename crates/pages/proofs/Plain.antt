@@ -43,7 +43,7 @@ plain_stays (b ∷ bs) h =
     let parts = and_parts (stands_for_itself b) (list_all stands_for_itself bs) h in
     rw (stays b (plain_byte b parts.0), plain_stays bs parts.1) refl
 
--- each byte of a character that is none of the five is none of them
+-- each byte of a character other than the five is none of the five
 plain_at : (c : ℕ) → IsPlain c → (i : ℕ) → i < length (encode_utf8 c) → IsPlain (get_or (encode_utf8 c) i 0)
 plain_at c h i within =
     (apart 38 (omega arith) h.0, apart 60 (omega arith) h.1, apart 62 (omega arith) h.2, apart 34 (omega arith) h.3, apart 39 (omega arith) h.4)
@@ -51,7 +51,7 @@ plain_at c h i within =
     apart : (d : ℕ) → d < 128 → c ≢ d → get_or (encode_utf8 c) i 0 ≢ d
     apart d small h e = h (inside_one c [] (encode_utf8 c) i (sym (append-nil (encode_utf8 c))) within (omega (arith, e)) ∙ e)
 
--- another character than the five stands for itself
+-- a character other than the five stands for itself
 pub character_stays : (c : ℕ) → IsPlain c → escaped (encode_utf8 c) ≡ encode_utf8 c
 character_stays c h = all_stay (encode_utf8 c) (plain_at c h)
 

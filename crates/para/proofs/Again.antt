@@ -1,4 +1,4 @@
--- What is printed of a paragraph that was read is read as it again.
+-- The print of a paragraph that was read is read as that paragraph again.
 use Rattle.std.proofs.Common.{◌≡◌, ◌<◌, ℕ, ◌+◌, Bool, true, false, ◌||◌, List, [], ◌∷◌, ◌++◌, length, drop, get_or, map, refl, sym, ◌∙◌, ap, subst, arith, cond, lit<}
 use Rattle.std.proofs.lemmas.Bool.Decides.{nat_tests}
 use Rattle.std.proofs.lemmas.List.{append-nil, append_assoc, take_at, drop_at, get_or_at, length-append}
@@ -241,7 +241,7 @@ spells-field f =
     let P : List Line → Type 0 = SpellsValue ((f.name ++ (58 ∷ first_text f.first)) ∷ map (λ l. 32 ∷ l) f.more) f.name in
     ([], tt, subst P (sym (no_blanks f.first f.more)) (spells-first f.name f.first, spells-more f.more))
 
--- the lines of a paragraph that is printed, with an empty one behind
+-- the lines of a paragraph that is printed, with an empty one after them
 record Printed (p : List FieldValue) : Type 0 where
   own : List Line
   is : lines (paragraph_text p) ≡ own ++ ([] ∷ [])

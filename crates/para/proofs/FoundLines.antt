@@ -12,7 +12,7 @@ use Rattle.para.proofs.Lines.{colon_split, skipped, trims, Trims, or_false}
 use Rattle.para.proofs.Rest.{Rest, put, before_rest, rest_of, values_of, names_after, faults_from}
 use Rattle.para.proofs.LineKinds.{Kind, gap, goes_on, starts, IsGap, GoesOn, Begins, passes, kind, is_taken, or_else_none, tail-content}
 
--- none of these names is among those before it
+-- no name of the list is among those before it
 abbrev pub Fresh : List (List ℕ) → List (List ℕ) → Type 0
 Fresh names [] = Unit {0}
 Fresh names (x ∷ xs) = (is_taken names x ≡ false) × Fresh (names ++ x ∷ []) xs
@@ -29,7 +29,7 @@ unfolding IsDistinct
 distinct-fresh [] h = tt
 distinct-fresh (x ∷ xs) h = let s = fresh_first x [] xs h.1 in (s.0, distinct-fresh xs s.1)
 
--- Lines that stand behind fields of these names give r: lines that go on with the last of them, then fields, then paragraphs.
+-- Lines that stand after fields of these names give r: lines that continue the last of them, then fields, then paragraphs.
 pub record Found (names : List (List ℕ)) (ls : List Line) (r : Rest) : Type 0 where
   pub conts : List Line
   pub own : List Line

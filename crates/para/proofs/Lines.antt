@@ -141,7 +141,7 @@ colon_split (b ∷ bs) h = by_kind (is_colon b) refl h (colon_split bs)
         ap (λ x. b ∷ x) (rec k) ∙ ap (λ n. take n (b ∷ bs) ++ 58 ∷ drop (suc (p + 1)) (b ∷ bs)) e1 ∙ ap (λ n. take (1 + p) (b ∷ bs) ++ 58 ∷ drop n (b ∷ bs)) e2
 
 -- ---- values
--- with any blanks before and behind, the one line of a value is that line
+-- the one line of a value is read as that line, whatever blanks stand before and after it
 pub one_line : (before line behind : List ℕ) → AreBlanks before → AreBlanks behind → begins_with_blank line ≡ false → begins_with_blank (reverse line) ≡ false → trim_end (skip_blanks (before ++ (line ++ behind))) ≡ line
 one_line before [] behind h k first last = ap trim_end (skip_over before behind h ∙ skip_all behind k)
 one_line before (b ∷ bs) behind h k first last = ap trim_end (skip_over before ((b ∷ bs) ++ behind) h ∙ skip_none ((b ∷ bs) ++ behind) first) ∙ trim_end-over (b ∷ bs) behind k last
@@ -151,7 +151,7 @@ trim_last-with_blanks blanks first [] h last = ap (λ x. x ∷ []) (trim_end-ove
 trim_last-with_blanks blanks first (line ∷ []) h last = ap (λ x. first ∷ x) (trim_last-with_blanks blanks line [] h last)
 trim_last-with_blanks blanks first (line ∷ next ∷ more) h last = ap (λ x. first ∷ x) (trim_last-with_blanks blanks line (next ∷ more) h last)
 
--- The lines end with no blank, and with blanks they are those of the value.
+-- The lines of a value do not end with a blank, and with blanks they are read as that value.
 pub record Trims (first : Line) (more : List Line) (t : FieldValue) : Type 0 where
   pub blanks : List ℕ
   pub are : AreBlanks blanks
@@ -160,7 +160,7 @@ pub record Trims (first : Line) (more : List Line) (t : FieldValue) : Type 0 whe
   pub contents : AllByRecursion (λ l. has_content l ≡ true) t.more
   pub ends : begins_with_blank (reverse (last_line t.first t.more)) ≡ false
 
--- the same of lines that are no first line
+-- the lines of a value after its first do not end with a blank, and with blanks they are read as those
 record TrimsMore (line : Line) (more : List Line) (ts : List Line) : Type 0 where
   blanks : List ℕ
   are : AreBlanks blanks

@@ -47,7 +47,7 @@ pub names_seen : (fields : List Field) → map (λ (g : Field). g.name.now) fiel
 names_seen [] = refl
 names_seen (f ∷ fields) = ap (λ ns. f.name.now ∷ ns) (names_seen fields)
 
--- where no field is open, the names are those of the fields that ended
+-- if no field is open, the names are those of the fields that ended
 pub names_ended : (s : State) → s.current ≡ None → names_of s ≡ map (λ (f : FieldValue). f.name) s.fields
 names_ended s is = ap (λ o. map (λ (f : FieldValue). f.name) (ended s.fields o)) is
 
@@ -55,7 +55,7 @@ some_if : (b : Bool) (f : Field) (rest : Option Field) (taken : Bool) → is_som
 some_if true f rest taken e = refl
 some_if false f rest taken e = e
 
--- a field of the name is found where the name is taken
+-- a field of the name is found if and only if the name is taken
 pub some_named : (fields : List Field) (name : List ℕ) → is_some (find (λ (f : Field). str_eq_ignore_ascii_case f.name.now name) fields) ≡ is_taken (map (λ (f : Field). f.name.now) fields) name
 some_named [] name = refl
 some_named (f ∷ fields) name = some_if (str_eq_ignore_ascii_case f.name.now name) f (find (λ (g : Field). str_eq_ignore_ascii_case g.name.now name) fields) (is_taken (map (λ (g : Field). g.name.now) fields) name) (some_named fields name)

@@ -9,7 +9,7 @@ use Rattle.para.specs.Field.{FieldValue}
 use Rattle.para.specs.Fault.{line_fault, or_else, fault_at, first_fault, names_before}
 use Rattle.para.specs.Reading.{State, tail, value_part, trimmed, ended, with_paragraph, finished, names_of, continued, after_line, unless, reading}
 
--- What lines give: the ones that go on with a field before them, the fields behind those, and the paragraphs behind these.
+-- What lines give: the ones that continue a field before them, then the fields after those, then the paragraphs after these.
 pub record Rest : Type 0 where
   pub more : List Line
   pub fields : List FieldValue
@@ -37,7 +37,7 @@ values_of ls = put (rest_of ls).fields (rest_of ls).paragraphs
 abbrev pub names_after : List (List ℕ) → Line → List (List ℕ)
 names_after names line = if is_empty line then [] else (if begins_with_blank line then names else names ++ name_part line ∷ [])
 
--- the first fault, with the names before and how many lines
+-- the first fault of lines that stand after fields of these names and after this number of lines
 abbrev pub faults_from : List (List ℕ) → ℕ → List Line → Option ParaFault
 faults_from names n [] = None
 faults_from names n (line ∷ ls) = or_else (line_fault names (n + 1) line) (faults_from (names_after names line) (n + 1) ls)

@@ -28,7 +28,7 @@ allowed-back : (xs ys : List Line) → AreAllowed (xs ++ ys) → AreAllowed ys
 allowed-back [] ys h = h
 allowed-back (x ∷ xs) ys h = allowed-back xs ys h.1
 
--- Lines are read as r and have no fault behind these names, whatever their number.
+-- After fields of these names, lines are read as r and have no fault, whatever their number.
 pub record Reads (names : List (List ℕ)) (ls : List Line) (r : Rest) : Type 0 where
   pub rest : rest_of ls ≡ r
   pub none : (n : ℕ) → faults_from names n ls ≡ None
@@ -51,7 +51,7 @@ or_true false b h = h
 content_behind : (x : ℕ) (xs : Line) → has_content xs ≡ true → has_content (x ∷ xs) ≡ true
 content_behind x xs p = or_true (not (is_blank x)) (has_content xs) p
 
--- lines that go on with a field
+-- lines that continue a field
 reads-more : (names : List (List ℕ)) (ls more : List Line) (tail_lines : List Line) (r : Rest) → is_nil names ≡ false → AreAllowed ls → AllByRecursion (λ l. has_content l ≡ true) more → SpellsMore ls more
     → Reads names tail_lines r → r.more ≡ [] → Reads names (ls ++ tail_lines) (record { more = more; fields = r.fields; paragraphs = r.paragraphs })
 reads-more names [] [] tail_lines r f a c h k e = record { rest = k.rest ∙ same r e; none = k.none }
@@ -97,7 +97,7 @@ some_name (y ∷ ys) x = refl
 HaveContent : List Line → Type 0
 HaveContent ls = AllByRecursion (λ l. has_content l ≡ true) ls
 
--- blanks behind the last line take no content away
+-- lines with content still have it with blanks at the end of the last line
 padded : (blanks : List ℕ) (first : Line) (more : List Line) → HaveContent (first ∷ more) → HaveContent (with_blanks blanks first more)
 unfolding HaveContent
 padded blanks first [] h = (list_any-append (λ b. not (is_blank b)) first blanks ∙ ap (λ t. t || has_content blanks) h.0, tt)
@@ -136,7 +136,7 @@ reads-field : (names : List (List ℕ)) (ls : List Line) (f : FieldValue) (tail_
     → Reads (names ++ f.name ∷ []) tail_lines r → r.more ≡ [] → Reads names (ls ++ tail_lines) (record { more = []; fields = f ∷ r.fields; paragraphs = r.paragraphs })
 reads-field names ls f tail_lines r a v free h k e = reads-value names h.0 f ls (with_blanks h.0 f.first f.more) tail_lines r h.1 v free k e refl a h.2
 
--- the lines of fields, with an empty line or none behind
+-- the lines of fields, with an empty line or no line after them
 reads-fields : (names : List (List ℕ)) (ls : List Line) (fs : List FieldValue) (tail_lines : List Line) (ps : List (List FieldValue)) → AreAllowed ls → AllByRecursion IsField fs → Fresh names (map (λ f. f.name) fs) → SpellsFields ls fs
     → ((ns : List (List ℕ)) → Reads ns tail_lines (record { more = []; fields = []; paragraphs = ps })) → Reads names (ls ++ tail_lines) (record { more = []; fields = fs; paragraphs = ps })
 reads-fields names ls [] tail_lines ps a v free h k = let P : List Line → Type 0 = λ x. Reads names (x ++ tail_lines) (record { more = []; fields = []; paragraphs = ps }) in subst P (sym h) (k names)
@@ -161,7 +161,7 @@ reads_all-gaps : (gaps ls : List Line) (ps : List (List FieldValue)) → AreEmpt
 reads_all-gaps [] ls ps e h = h
 reads_all-gaps (line ∷ gaps) ls ps e h = reads_all-gap line (gaps ++ ls) ps e.0 (reads_all-gaps gaps ls ps e.1 h)
 
--- behind fields of any names, where an empty line or none comes first
+-- lines are read so after fields of any names, if an empty line or no line comes first
 reads-behind : (ls : List Line) (ps : List (List FieldValue)) → BeginsEmpty ls → ReadsAll ls ps → (ns : List (List ℕ)) → Reads ns ls (record { more = []; fields = []; paragraphs = ps })
 reads-behind [] ps b h ns =
     let e : [] ≡ ps = ap (λ r. put r.fields r.paragraphs) h.reads.rest ∙ h.is in

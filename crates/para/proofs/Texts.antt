@@ -75,7 +75,7 @@ record Grouped (ls : List Line) (r : Rest) : Type 0 where
   more : map tail (take_while begins_with_blank first) ≡ r.more
   nil : is_nil first ≡ (is_nil r.more && is_nil r.fields)
 
--- the first of the groups, if it is one, with those behind it
+-- the first of the groups, if it is one, with those after it
 with_first : (first : List Line) (others : List (List Line)) (fields : List FieldValue) (ps : List (List FieldValue)) → is_nil first ≡ is_nil fields → fields_of first ≡ fields → map fields_of (filter some_lines others) ≡ ps
     → map fields_of (filter some_lines (first ∷ others)) ≡ put fields ps
 with_first [] others [] ps e f h = h

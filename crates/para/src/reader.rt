@@ -27,7 +27,7 @@ pub struct Reader<'a> {
     fields: Vec<Field<'a>>,
     /// The field that did not end, with the blanks after its last line.
     current: Option<Field<'a>>,
-    /// Whether there are so many fields that their names are looked up in `names`.
+    /// Whether there are `FEW` fields or more, so that their names are looked up in `names`.
     has_many: bool,
     /// The names of all these fields in lower case, if there are many.
     names: BTreeSet<String>,

@@ -1,4 +1,4 @@
--- A .dsc or a sidecar differs where some part of the rule applies.
+-- A .dsc or a sidecar differs if and only if some part of the rule applies.
 use Rattle.std.proofs.Common.{◌≡◌, ℕ, Bool, true, false, not, ◌||◌, List, [], ◌∷◌, refl, ◌∙◌}
 use Rattle.std.specs.Prelude.{Option, None, Some, is_some, option_map}
 use Rattle.std.specs.Bool.{then_some}

@@ -15,7 +15,7 @@ use Rattle.suites.proofs.Stems.{counted, paired}
 use Rattle.reasons.specs.Named.{is_lone, is_unlisted, lacks_dsc, listed_changes, listed_part, lone_file, source_file, surplus_dsc, beside, twins, unlisted_file}
 use Rattle.reasons.proofs.Searches.{counted_where, found_where, not_all, not_either, not_unless, same_any}
 
--- so many are listed, one or none is wanted
+-- the number of listed files is not the one that is wanted, which is one or none
 off_by : (s : Bool) (xs : List Entry) → not (length xs == (if s then 1 else 0)) ≡ (is_some (slice_get xs (if s then 1 else 0)) || (s && not (nat_lt 0 (length xs))))
 off_by true [] = refl
 off_by true (x ∷ []) = refl

@@ -15,7 +15,7 @@ use Rattle.suites.specs.Verdict.{by_print, upload_rows, verdict_on}
 use Rattle.reasons.specs.Reasons.{named_architecture, named_by, named_component}
 use Rattle.reasons.proofs.Rows.{a_component, a_dsc, a_listing, a_missing_file, a_sidecar, a_taken_file, an_architecture, at_suite}
 
--- the row's verdict is about something where it applies
+-- the row's verdict is about something if the row applies
 abbrev Names : (Verdict → Bool) → Row → Type 0
 Names names row = row.0 ≡ true → names row.1 ≡ true
 

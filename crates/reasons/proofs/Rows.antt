@@ -1,4 +1,4 @@
--- The rule of a verdict applies exactly where it names something.
+-- The rule of a verdict applies if and only if it names something.
 use Rattle.std.proofs.Common.{◌≡◌, ℕ, Bool, true, false, not, ◌||◌, List, [], ◌∷◌, map, codes, refl, ap, ◌∙◌}
 use Rattle.std.specs.Prelude.{Option, None, Some, Result, Ok, Err, is_some, option_and_then, option_map}
 use Rattle.std.specs.Bool.{then_some}
@@ -30,7 +30,7 @@ either : {X : Type 0} (o p : Option X) → (is_some o || is_some p) ≡ is_some 
 either None p = refl
 either (Some x) p = refl
 
--- of a list, where one element is about something
+-- some element passes if and only if something is found in the list
 first_where : {X Y : Type 0} (p : X → Bool) (h : X → Option Y) → ((x : X) → p x ≡ is_some (h x)) → (xs : List X) → list_any p xs ≡ is_some (first_some (map h xs))
 first_where p h same [] = refl
 first_where p h same (x ∷ xs) = (λ i. same x i || first_where p h same xs i) ∙ either (h x) (first_some (map h xs))

@@ -1,4 +1,4 @@
--- A search finds something exactly where the test holds somewhere.
+-- A search finds something if and only if the test holds somewhere.
 use Rattle.std.proofs.Common.{◌≡◌, ℕ, suc, ◌+◌, ◌<◌, Bool, true, false, not, ◌&&◌, ◌||◌, cond, List, [], ◌∷◌, Option, Some, filter, length, map, drop, get_or, refl, sym, ap, ◌∙◌, arith}
 use Rattle.std.specs.Prelude.{find, is_some, nat_lt}
 use Rattle.std.specs.List.{list_any, list_all}
@@ -15,7 +15,7 @@ found_where p (x ∷ xs) = by_case (p x) (found_where p xs)
     by_case true more = refl
     by_case false more = more
 
--- some are kept where the test holds somewhere
+-- some are kept if and only if the test holds somewhere
 pub counted_where : {X : Type 0} (p : X → Bool) (xs : List X) → nat_lt 0 (length (filter p xs)) ≡ list_any p xs
 counted_where p [] = refl
 counted_where p (x ∷ xs) = by_case (p x) (counted_where p xs)
@@ -27,7 +27,7 @@ counted_where p (x ∷ xs) = by_case (p x) (counted_where p xs)
     by_case true more = some (length (filter p xs))
     by_case false more = more
 
--- not all pass where one does not
+-- not all pass if and only if one does not
 pub not_all : {X : Type 0} (p : X → Bool) (xs : List X) → not (list_all p xs) ≡ list_any (λ x. not (p x)) xs
 not_all p [] = refl
 not_all p (x ∷ xs) = by_case (p x) (not_all p xs)

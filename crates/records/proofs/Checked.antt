@@ -1,4 +1,4 @@
--- What each check says where it finds no fault, and that it finds none where this holds.
+-- What holds if a check finds no fault; and if it holds, the check finds no fault.
 use Rattle.std.proofs.Common.{◌≡◌, ◌≢◌, inl, inr, ℕ, Bool, true, false, not, ◌&&◌, cond, List, [], ◌∷◌, Option, Some, None, Result, Ok, Err, refl, ap, ◌∙◌, codes}
 use Rattle.std.specs.List.{find, list_any, list_all, AllByRecursion, Contains, IsDistinct}
 use Rattle.std.specs.Option.{option_map}

@@ -1,4 +1,4 @@
--- A paragraph is read as a record exactly where it makes that record; then the same of texts.
+-- A paragraph is read as a record if and only if it makes that record, and so is a text.
 use Rattle.std.proofs.Common.{◌≡◌, ◌≤◌, ℕ, List, [], ◌∷◌, length, Option, Some, None, Result, Ok, Err, refl, sym, ap, ◌∙◌, subst}
 use Rattle.para.specs.Fields.{Fields, fields_in}
 use Rattle.para.specs.Grammar.{Spells}

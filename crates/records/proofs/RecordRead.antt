@@ -1,4 +1,4 @@
--- A text is read as a record exactly where it is that record.
+-- A text is read as a record if and only if it is that record.
 use Rattle.std.proofs.Common.{◌≡◌, ℕ, List, Ok, Err, sym, ◌∙◌}
 use Rattle.records.specs.Records.{IsChanges, IsDsc, IsSidecar, changes_in, changes_fault, changes_of, changes_limit, dsc_in, dsc_fault, dsc_limit, dsc_of, sidecar_in, sidecar_fault, sidecar_of, sidecar_limit, unless}
 use Rattle.records.specs.Values.{ChangesValue, DscValue, SidecarValue}

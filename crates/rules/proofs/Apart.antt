@@ -1,4 +1,4 @@
--- No two suites of a configuration claim one distribution name.
+-- No two suites of a configuration claim the same distribution name.
 use Rattle.std.proofs.Common.{◌≡◌, ℕ, ◌||◌, Bool, true, false, cond, List, [], ◌∷◌, ◌++◌, map, refl, sym, ap, ◌∙◌, subst, arith, Option, Some, None, Ok}
 use Rattle.std.specs.List.{list_any, All, AllPairs}
 use Rattle.std.specs.Str.{bytes_eq}
@@ -18,7 +18,7 @@ use Rattle.rules.specs.declared.fault.ConfigFault.{ConfigFault}
 use Rattle.rules.specs.declared.fault.ConfigFault.TheVariants as faults
 use Rattle.rules.proofs.Configs.{is_config}
 
--- of names none of which is claimed, none is claimed
+-- if none of the names is claimed, a name among them is not claimed
 pub none_shared : (claimed names : List (List ℕ)) (name : List ℕ) → list_any (is_among claimed) names ≡ false → is_among names name ≡ true → is_among claimed name ≡ false
 none_shared claimed [] name h k = cc
 none_shared claimed (n ∷ ns) name h k =

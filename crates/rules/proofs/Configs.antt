@@ -35,7 +35,7 @@ unfolding config_in
 refused_paragraphs text ps e found (inl memory) = inl memory
 refused_paragraphs text ps e found (inr bad) = inr (ap (of_paragraphs text) found ∙ ap (λ f. unless f (config_of text ps)) bad)
 
--- the configuration of a text whose paragraphs have none
+-- the configuration of a text whose paragraphs have no fault
 pub configured : (text bytes : List ℕ) (ps : List Fields) (suites : List Suite) (keep : Option ℕ) → paragraphs_in text config_limit ≡ Ok ps → config_fault ps ≡ None
     → bytes ≡ text → suites ≡ map suite_of ps → keep ≡ days (codes "KeepDays") (get_or ps 0 []) → config_in text ≡ Ok (record { text = bytes; suites = suites; keep_days = keep })
 unfolding config_in
@@ -43,7 +43,7 @@ configured text bytes ps suites keep found none copied made kept =
     ap (of_paragraphs text) found ∙ ap (λ f. unless f (config_of text ps)) none
     ∙ (λ i. Ok (record { text = sym copied i; suites = sym made i; keep_days = sym kept i }))
 
--- the same of a copy of the text
+-- the configuration of a copy of a text whose paragraphs have no fault
 pub configured_copy : (text bytes : List ℕ) (ps : List Fields) (suites : List Suite) (keep : Option ℕ) → paragraphs_in text config_limit ≡ Ok ps → config_fault ps ≡ None
     → bytes ≡ text → suites ≡ map suite_of ps → keep ≡ days (codes "KeepDays") (get_or ps 0 []) → config_in bytes ≡ Ok (record { text = bytes; suites = suites; keep_days = keep })
 configured_copy text bytes ps suites keep found none copied made kept = ap config_in copied ∙ configured text bytes ps suites keep found none copied made kept

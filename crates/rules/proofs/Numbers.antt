@@ -12,7 +12,7 @@ use Rattle.rules.specs.Days.{most_days}
 abbrev answer : List ℕ → Option ℕ
 answer bs = if ltb 0 (length bs) && leb (digits_value 10 bs) most_days then Some (digits_value 10 bs) else None
 
--- a number that fits no `u32` is none of days, and neither is a text of no digits
+-- a number that does not fit a `u32` is not a number of days, and neither is a text without digits
 pub no_days : (bs : List ℕ) → list_all is_ascii_digit bs ≡ true → (IsNumeral 10 (without_leading_plus bs) × (digits_value 10 (without_leading_plus bs) < 2 ^ 32) → ⊥) → None ≡ answer bs
 no_days bs h p =
     let q = subst (λ (ds : List ℕ). IsNumeral 10 ds × (digits_value 10 ds < 2 ^ 32) → ⊥) (no_plus bs h) p in

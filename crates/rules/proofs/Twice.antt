@@ -1,4 +1,4 @@
--- A distribution name that two suites claim, and the fault that tells of it.
+-- A distribution name that two suites claim, and the fault that reports it.
 use Rattle.std.proofs.Common.{◌≡◌, ◌<◌, ◌⊎◌, inl, inr, ◌↔◌, ℕ, zero, suc, ◌||◌, Bool, true, false, cond, List, [], ◌∷◌, ◌++◌, map, refl, sym, ap, ◌∙◌, arith, Option, Some, None, Result, Ok, Err}
 use Rattle.std.specs.List.{list_any}
 use Rattle.std.specs.Str.{bytes_eq}
@@ -26,7 +26,7 @@ or_cases : (a b : Bool) → (a || b) ≡ true → (a ≡ true) ⊎ (b ≡ true)
 or_cases true b h = inl refl
 or_cases false b h = inr h
 
--- ---- where a name is claimed again, two suites claim it
+-- ---- if a name is claimed again, two suites claim it
 
 -- a name among those claimed already, and a suite that claims it
 record Again (claimed : List (List ℕ)) (suites : List Suite) : Type 0 where
@@ -71,7 +71,7 @@ pair_found : (suites : List Suite) → Found [] suites → ClaimOneName suites
 pair_found suites (inl a) = let known = a.known in cc
 pair_found suites (inr pair) = pair
 
--- ---- where two suites claim a name, it is claimed again
+-- ---- if two suites claim a name, it is claimed again
 
 known_shared : (claimed names : List (List ℕ)) (name : List ℕ) → is_among claimed name ≡ true → is_among names name ≡ true → list_any (is_among claimed) names ≡ true
 known_shared claimed names name known here = elim (either (list_any (is_among claimed) names)) [
@@ -126,7 +126,7 @@ unless_err : (f : Option ConfigFault) (config : ConfigValue) (e : ConfigFault) �
 unless_err None config e h = cc
 unless_err (Some f) config e h = cc
 
--- the paragraphs of a text, where two suites of theirs claim a name
+-- the paragraphs of a text, two of whose suites claim the same name
 abbrev Twice : List ℕ → Type 0
 Twice text = (ps : List Fields) × (paragraphs_in text config_limit ≡ Ok ps) × ClaimOneName (map suite_of ps)
 

@@ -32,10 +32,10 @@ pub number_is : (n : ℕ) (v : Verdict) → verdict_numbered n ≡ Some v → n 
 unfolding verdict_numbered
 number_is n v e = sym ((Decides-eqb (number_of v) n).0 (passes n all_verdicts v e))
 
--- the verdict with a number is the one whose number it is
+-- a search for a number finds a verdict if and only if that is its number
 pub numbered : (n : ℕ) (v : Verdict) → (verdict_numbered n ≡ Some v) ↔ (number_of v ≡ n)
 numbered n v = (λ e. sym (number_is n v e), λ e. ap verdict_numbered (sym e) ∙ known v)
 
--- verdicts of one number are one
+-- verdicts of the same number are equal
 pub same_verdict : (v w : Verdict) → number_of v ≡ number_of w → v ≡ w
 same_verdict v w e = let both : Some v ≡ Some w = sym (known v) ∙ ap verdict_numbered e ∙ known w in cc

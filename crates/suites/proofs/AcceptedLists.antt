@@ -60,7 +60,7 @@ pub has_entry-print : (e f : Entry) (entries : List Entry) → AllPairs (λ a b.
 unfolding has_entry
 has_entry-print e f entries names listed same h = print_found e f entries (entry_named e.name entries) refl names listed same h
 
--- a file that both list has one print
+-- a file that both lists have has the same print in both
 pub both_listed : (c : ChangesValue) (name : List ℕ) (d : DscValue) (e f : Entry) → differs_from_dsc c name d ≡ false → AllPairs (λ a b. a.name ≢ b.name) d.entries
     → Contains c.entries e → Contains d.entries f → e.name ≡ f.name → e.print ≡ f.print
 both_listed c name d e f h names p q same =

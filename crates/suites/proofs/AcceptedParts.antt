@@ -70,7 +70,7 @@ dsc_print u p upload h ends = (All-contains IsTextOf (parts u) p upload.texts h)
 some_length : {X : Type 0} (xs : List X) (x : X) → Contains xs x → 1 ≤ length xs
 some_length xs x h = omega (arith, h.1)
 
--- where there is a .dsc there is `source` among the architectures
+-- if there is a .dsc, `source` is among the architectures
 counts_source : (has : Bool) (n : ℕ) → not (eqb n (cond has 1 0)) ≡ false → 1 ≤ n → has ≡ true
 counts_source true n e some = refl
 counts_source false n e some = absurd (let k : n ≡ 0 = eqb-true _ _ (not-false _ e) in omega (arith, k, some))
@@ -119,7 +119,7 @@ found_step test x y ys false t e h more = elim (which y x ys h) [
   | inr rest ↦ more rest
 ]
 
--- a search finds something where a member passes
+-- a search finds something if a member passes
 finds : {X : Type 0} (test : X → Bool) (x : X) (xs : List X) → Contains xs x → test x ≡ true → (y : X) × (find test xs ≡ Some y)
 finds test x [] h e = no_member x h
 finds test x (y ∷ ys) h e = found_step test x y ys (test y) refl e h (λ r. finds test x ys r e)

@@ -32,7 +32,7 @@ passed : (b : Bool) (v all rest more : Verdict) → v ≢ verdict.Accepted → c
 passed true v all rest more refusal e behind = absurd (refusal e)
 passed false v all rest more refusal e behind = behind e
 
--- rows and those behind them accept alike
+-- if rows and those after them accept, both do
 both_accept : (rows more : List Row) → AllByRecursion Refuses rows → first_row (rows ++ more) ≡ verdict.Accepted → (first_row rows ≡ verdict.Accepted) × (first_row more ≡ verdict.Accepted)
 both_accept [] more refuse e = (refl, e)
 both_accept (row ∷ rows) more refuse e =

@@ -43,7 +43,7 @@ apart_from_pairs (a ∷ xs) pairs = (
 )
 
 module _ {X : Type 0} (version : X → List ℕ) where
-  -- an item of a version at least xs great is there
+  -- an item of a version at least as great is there
   abbrev reached : X → Option X → Bool
   reached v shown = option_map_or (λ x. is_at_least (version x) (version v)) shown false
 
@@ -52,7 +52,7 @@ module _ {X : Type 0} (version : X → List ℕ) where
   chosen None shown = shown
   chosen (Some v) shown = cond (reached v shown) shown (Some v)
 
-  -- of what comes, what is not covered
+  -- what comes and is not covered
   abbrev pub uncovered : Option X → Option X → Option X
   uncovered None shown = None
   uncovered (Some v) shown = cond (reached v shown) None (Some v)
@@ -174,7 +174,7 @@ module _ {X : Type 0} (version : X → List ℕ) where
   was_shown None shown x e = cc
   was_shown (Some v) shown x e = e
 
-  -- and what takes its place is another item
+  -- what takes the place of a dropped item is another item
   is_other : (arriving shown : Option X) (x : X) → cond (is_some (uncovered arriving shown)) shown None ≡ Some x → chosen arriving shown ≢ Some x
   is_other None shown x e same = cc
   is_other (Some v) shown x e same = by_case (reached v shown) refl

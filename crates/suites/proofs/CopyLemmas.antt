@@ -165,7 +165,7 @@ module _ (shelves : ShelvesValue) (from : ℕ) (source : List ℕ) (target : Sui
       kept_first e (filter (is_of_source from source) es) (filter (is_copied from source target) es) (nat_eq e.0.suite from && bytes_eq e.1.source source)
       (keeps_component target e.1.component) (keeps_architecture target e.1.architecture) (ap (kept_by target) (h e (here e es))) (kept_of es (λ d at. h d (there e d es at)))
 
-  -- they are those that a copy takes
+  -- the kept items of these shelves are those that a copy takes
   pub kept-taken : flat_map kept_at (shelves_of shelves from source) ≡ map (λ a. a.1) (filter (is_copied from source target) (entries shelves))
   unfolding shelves_of
   kept-taken = kept_of (entries shelves) (entry_there shelves)

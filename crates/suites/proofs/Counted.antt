@@ -1,4 +1,4 @@
--- That the counts hold again once a plan is made.
+-- The counts hold again once a plan is made.
 use Rattle.std.proofs.Common.{◌≡◌, ℕ, zero, suc, ◌+◌, ◌-◌, ◌<◌, Bool, true, false, cond, List, [], ◌∷◌, ◌++◌, map, fold, bytes_eq, refl, sym, ap, ◌∙◌, arith, Option, Some, None}
 use Rattle.std.specs.Prelude.{T, is_some}
 use Rattle.std.specs.List.{enumerate_from, flat_map}
@@ -50,7 +50,7 @@ print_is (Some a) f r x g e same = cc
 print_is None f true x g e same = cc
 print_is None f false x g e same = sym (same g (sym e))
 
--- where so many references remain, and the print is that of the files after
+-- what is kept at a path with `n` references left is what the files after have there, with their print
 closed : (p : List ℕ) (x : Print) (n : ℕ) (before after : List (List ℕ × Print)) (added : List PoolFile) (removed : List (List ℕ × Print))
     → n ≡ count_at p after
     → T (is_sorted text_order (map pair_of added))

@@ -68,7 +68,7 @@ module _ {K X : Type 0} (R : K → K → Ordering) where
   below-at k (e ∷ es) (suc i) d lt below = below-at k es i d (omega arith) (and_right (is_lt (R k e.0)) _ below)
 
 module _ {K X : Type 0} {R : K → K → Ordering} (o : IsTotalOrder R) where
-  -- the first key of a list in order ties with none behind it
+  -- the first key of a list in order ties with none after it
   pub tied_behind : (k q : K) (es : List (K × X)) → T (below_all R k es) → eq_by_cmp R q k ≡ true → find R q es ≡ None
   tied_behind k q [] below tied = refl
   tied_behind k q (e ∷ es) below tied =

@@ -1,4 +1,4 @@
--- What a call says that failed, or that did not.
+-- What is known of a call that failed, and of one that did not.
 use Rattle.std.proofs.Common.{◌≡◌, true, false, OnOk, OnErr, Result, Ok, Err}
 use Rattle.std.specs.Result.{is_err}
 

@@ -55,7 +55,7 @@ module _ {K X : Type 0} {R : K → K → Ordering} where
         ]
       ] refl
 
--- where all agree, a member is what is found at its path
+-- if all agree, a member is what is found at its path
 pub agreed_found : (files : List (List ℕ × Print)) (path : List ℕ) (print : Print) → AreAgreed files → Contains files (path, print) → find text_order path files ≡ Some print
 agreed_found files path print agreed h =
     let w = found_member text_order_total path print files h in

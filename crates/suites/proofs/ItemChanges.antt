@@ -123,7 +123,7 @@ module _ {K X : Type 0} {R : K → K → Ordering} (o : IsTotalOrder R) where
   one_stays m test es i e h is t =
       sym (gone_more m test es i e h is ∙ ap (λ b. cond b (remove (without m (filter test (take i es))) e.0) (without m (filter test (take i es)))) t)
 
-  -- to put what is new and what replaces, and to take away what leaves, is to make the change
+  -- putting what is new and what replaces, and removing what leaves, makes the change
   split_up : (b : Bool) (put dropped was : Option X)
       → cond (is_some (cond (not (is_some put)) dropped None)) None (or_else (cond b put None) (or_else (cond (not b) put None) was)) ≡ or_else put (cond (is_some dropped) None was)
   split_up true (Some x) dropped was = refl

@@ -20,7 +20,7 @@ use Rattle.suites.proofs.Suffixes.{deb-no_sidecar}
 use Rattle.suites.proofs.UploadFiles.{IsFile, entry_named-Contains}
 use Rattle.suites.proofs.UploadItems.{source_items, binary_items}
 
--- the entries that a .dsc lists, none where there is no .dsc
+-- the entries that a .dsc lists, none if there is no .dsc
 abbrev pub dsc_entries : Option SourcePart → List Entry
 dsc_entries None = []
 dsc_entries (Some s) = s.dsc.entries
@@ -37,7 +37,7 @@ file_entry c es f h =
     let d = from_map (file_at (λ e. e.print) c (component c)) b.0 es b.1 in
     (d.0, d.1, ap (λ x. pair_of (file_of x)) d.2 ∙ ap pair_of b.2 ∙ a.2)
 
--- the .dsc is listed, and no sidecar
+-- the .dsc is listed, and is not a sidecar
 abbrev pub IsListedDsc : ChangesValue → SourcePart → Type 0
 IsListedDsc c s = Contains c.entries s.part.entry.now × (has_suffix (codes ".control") s.part.entry.now.name ≡ false)
 

@@ -30,7 +30,7 @@ pub claims_own : (s : Suite) → claims s.codename s ≡ true
 unfolding claims
 claims_own s = any_true (bytes_eq s.codename) (distributions s) s.codename (here s.codename (option_to_list s.suite ++ s.also_accept_for)) ((bytes_eq-Decides s.codename s.codename).1 refl)
 
--- suites that claim no name twice have different codenames
+-- suites of which no two claim the same name have different codenames
 pub codenames_apart : (suites : List Suite) → ClaimApart suites → AllPairs (λ (s t : Suite). s.codename ≢ t.codename) suites
 codenames_apart suites h = λ i j d below within e.
     let s : Suite = get_or suites i d in

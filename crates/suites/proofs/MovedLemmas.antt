@@ -22,7 +22,7 @@ use Rattle.suites.specs.declared.item.Item.{Item}
 use Rattle.suites.specs.declared.key.ShelfKey.{ShelfKey}
 use Rattle.suites.proofs.FileMembers.{agreed_found, entry_shown, files_contain, found_member, item_of_file, member_found, shown_entry, shown_value, value_shown}
 
--- ---- members of what is mapped where it is something
+-- ---- members of a list that is mapped and filtered
 
 pub from_filter_map : {X Y : Type 0} (f : X → Option Y) (y : Y) (xs : List X) → Contains (filter_map f xs) y → (x : X) × Contains xs x × (f x ≡ Some y)
 from_filter_map f y [] h = no_member y h
@@ -91,7 +91,7 @@ module _ (old : List Suite) (apart : AllPairs (λ s t. s.codename ≢ t.codename
     ]
   ]
 
-  -- suites whose codenames are found at one place are one
+  -- suites whose codenames are found at the same place are the same
   pub same_place : (new : List Suite) (i j k : ℕ) → place_in old new i ≡ Some k → place_in old new j ≡ Some k → i ≡ j
   same_place new i j k e f =
       let p = place_suite old new i k e in
@@ -114,7 +114,7 @@ module _ (old new : List Suite) (apart : AllPairs (λ s t. s.codename ≢ t.code
           let at : n ≡ d.0.suite = ap (λ (x : ShelfKey × Item). x.0.suite) same in
           (is ∙ ap Some at, sym same ∙ ap (λ m. (record e.0 { suite = m }, e.1)) at)
 
-  -- entries that move to one shelf are of one shelf
+  -- entries that move to the same shelf are of the same shelf
   pub one_shelf : (e f d g : ShelfKey × Item) → moved_entry old new e ≡ Some d → moved_entry old new f ≡ Some g → d.0 ≡ g.0 → e.0 ≡ f.0
   one_shelf e f d g h k same =
       let p = key_of e d h in
@@ -161,7 +161,7 @@ module _ (old new : List Suite) (apart : AllPairs (λ s t. s.codename ≢ t.code
   pub agreed_moved : AreAgreed (files_of (values shown)) → AreAgreed (files_of (values now))
   agreed_moved agreed path a b p q = agreed path a b (files_back (path, a) p) (files_back (path, b) q)
 
-  -- ---- where all is kept
+  -- ---- if all is kept
 
   module _ (stay : all_stay old new shown ≡ true) where
     -- each entry has its shelf, in a suite that keeps it
@@ -198,7 +198,7 @@ module _ (old new : List Suite) (apart : AllPairs (λ s t. s.codename ≢ t.code
             let other : None ≡ Some print = sym was ∙ there_is shown print agreed (files_back (path, print) (found now print is)) in
             absurd cc
 
-    -- each item is at home, and as its record tells it, in a suite that keeps it
+    -- each item is as its record says, in a suite that keeps it
     pub told_moved : (suites : List Suite) → AreTold suites shown → AreTold new now
     told_moved suites told = record {
       told = all_from (λ e. IsTold e.1) (entries now) (λ d at.

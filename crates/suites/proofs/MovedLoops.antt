@@ -24,7 +24,7 @@ use Rattle.suites.proofs.FileMembers.{files_contain, item_of_file, shown_value, 
 
 -- ---- entries, one after another
 
--- where no shelf is kept, the entry is not
+-- if the entry has no shelf there, it is not kept
 pub stays_not : (old new : List Suite) (e : ShelfKey × Item) → None ≡ (if stays_kept old new e then option_map (λ n. record e.0 { suite = n }) (place_in old new e.0.suite) else None) → stays_kept old new e ≡ false
 unfolding stays_kept
 stays_not old new e h = by_case (place_in old new e.0.suite) refl h
@@ -50,7 +50,7 @@ module _ (m : ShelvesValue) (key : ShelfKey) (item : Item) (rest : List (ShelfKe
   abbrev items : List Item
   items = map (λ (e : ShelfKey × Item). e.1) rest
 
-  -- what is on a shelf once the item is
+  -- what is on a shelf once the item is on its own
   shelf_then : (k : ShelfKey) → get (insert m key item) k ≡ cond (eq_by_cmp key_order k key) (Some item) (get m k)
   shelf_then k = get-insert key_order_total m key item k
 
@@ -125,7 +125,7 @@ pub nothing_left : {X : Type 0} (xs : List X) → length xs ≡ 0 → xs ≡ []
 nothing_left [] h = refl
 nothing_left (x ∷ xs) h = absurd (omega (arith, h))
 
--- what is so before the first of them
+-- what holds before the first item
 pub record Starts (all : List (ShelfKey × Item)) (m : ShelvesValue) (rest : List (ShelfKey × Item)) : Type 0 where
   pub left : (key : ShelfKey) → option_or (get m key) (find key_order key rest) ≡ get (from_entries {R = key_order} all) key
   pub free : All (λ (e : ShelfKey × Item). get m e.0 ≡ None) rest

@@ -1,4 +1,4 @@
--- The name at the place where an upload goes.
+-- The name of the component at the place where an upload goes.
 use Rattle.std.proofs.Common.{◌≡◌, ◌<◌, ℕ, List, [], Some, slice_get, position, option_and_then, bytes_eq, length, get_or, sym, ap, ◌∙◌}
 use Rattle.std.proofs.lemmas.List.Quantifiers.{position-Some}
 use Rattle.std.proofs.lemmas.Option.{get_or_from_slice_get}

@@ -44,7 +44,7 @@ after_row : (b : Bool) (v rest all last : Verdict) → v ≢ verdict.Accepted �
 after_row true v rest all last h e more = absurd (h e)
 after_row false v rest all last h e more = more e
 
--- rows that accept leave the verdict to those behind them
+-- rows that accept leave the verdict to those after them
 first_after : (rows more : List Row) → AllByRecursion Refuses rows → first_row rows ≡ verdict.Accepted → first_row (rows ++ more) ≡ first_row more
 first_after [] more h e = refl
 first_after (row ∷ rows) more h e = after_row row.0 row.1 (first_row rows) (first_row (rows ++ more)) (first_row more) h.0 e (first_after rows more h.1)

@@ -120,7 +120,7 @@ abbrev pub passing : (List ℕ → SharedFile → Bool) → Option SharedFile �
 passing test None p = None
 passing test (Some file) p = cond (test p file) (Some file.print) None
 
--- a file behind the first of its path
+-- no file after the first has the same path
 no_second : (p : List ℕ) (k : String Global) (es : List (String Global × SharedFile)) → T (below_all string_cmp k es) → eq_by_cmp text_order p (string_bytes k) ≡ true
     → at_path p es ≡ None
 no_second p k [] below tied = refl
@@ -168,7 +168,7 @@ never : (b : Bool) → nothing ≡ cond b None None
 never true = refl
 never false = refl
 
--- what the counts of the references that come tell of what the pool gains
+-- what the pool gains follows from the counts of the references that come
 pub gained-where : (shelves : ShelvesValue) (put : List Reference) (p : List ℕ)
     → passing (is_new shelves) (shared_at p (map referred put)) p ≡ gained shelves put p
 unfolding shared_at gained

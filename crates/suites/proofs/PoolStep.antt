@@ -1,4 +1,4 @@
--- How the pool changes where items come and go.
+-- How the pool changes when items come and go.
 use Rattle.std.proofs.Common.{◌≡◌, ◌≢◌, ℕ, ◌+◌, ◌<◌, ◌≤◌, Bool, true, false, cond, List, [], ◌∷◌, ◌++◌, map, refl, sym, ap, ◌∙◌, Option, Some, None, arith}
 use Rattle.std.specs.Prelude.{Contains, is_some, nat_eq, nat_le}
 use Rattle.std.specs.List.{enumerate_from}
@@ -60,7 +60,7 @@ never : (b : Bool) → ◌≡◌ {A = Option Print} (cond b None None) None
 never true = refl
 never false = refl
 
--- where as many go as there were and none comes, none is left
+-- if as many go as there were and none comes, none is left
 emptied : {o n p d : Option Print} {co cn cp cd : ℕ} → AtPath o n p d co cn cp cd → p ≡ None → nat_le co cd ≡ true → n ≡ None
 emptied {co = co} {cn = cn} {cp = cp} {cd = cd} h none le = h.none_new (let zero_new : cn ≡ 0 = omega (arith, h.sum, h.no_put none, le_true co cd le) in zero_new)
 
@@ -123,7 +123,7 @@ referred-references (e ∷ es) =
     map-append referred (references_of e) (references es)
     ∙ (λ i. referred-numbered e.0 1 e.1.files i ++ referred-references es i)
 
--- Where the files before and after are among some that agree, the pool changes as the counts say.
+-- If the files before and after are among some that agree, the pool changes as the counts say.
 pub pool-step : (old new : ShelvesValue) (put dropped : List (ShelfKey × Item)) (files : List (List ℕ × Print)) (added removed : List PoolFile)
     → AreAgreed files
     → ((f : List ℕ × Print) → Contains (files_of (values old)) f → Contains files f)

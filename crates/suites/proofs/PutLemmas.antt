@@ -29,9 +29,9 @@ use Rattle.suites.proofs.MapChanges.{or_else, weigh-insert}
 use Rattle.suites.proofs.ReferenceLemmas.{shared_by, shared_found, shared_missing, undone}
 use Rattle.suites.proofs.SharedLemmas.{count_at-cons, count_at-none, same_test}
 
--- ---- files that are counted and no more counted
+-- ---- files that are counted, and then no longer counted
 
--- a reference to a file, of no item that matters
+-- a reference to a file, whatever its item
 abbrev to_file : PoolFile → Reference
 to_file f = record {
   key = record { suite = 0; kind = Source; «package» = []; architecture = [] };

@@ -1,4 +1,4 @@
--- What is known of a text that was read as a record: it is UTF-8, and no two entries of a .changes have one name.
+-- What is known of a text that was read as a record: it is UTF-8, and no two entries of a .changes have the same name.
 use Rattle.std.proofs.Common.{◌≡◌, ◌≢◌, ℕ, List, Ok}
 use Rattle.std.specs.Prelude.{AllPairs}
 use Rattle.std.specs.Str.{IsUtf8}

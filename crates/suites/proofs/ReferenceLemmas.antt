@@ -16,12 +16,12 @@ use Rattle.suites.specs.declared.shelves.SharedFile.{SharedFile}
 use Rattle.suites.proofs.MapChanges.{tied_behind}
 use Rattle.suites.proofs.SharedLemmas.{same_test, count_at-cons}
 
--- what is kept at a path to which there are so many references
+-- what is kept at a path to which there is this number of references
 abbrev pub shared_by : Print → ℕ → Option SharedFile
 shared_by x zero = None
 shared_by x (suc n) = Some (record { print = x; references = suc n })
 
--- the print of no file, where one has to be named
+-- a print that is used if a print has to be named and there is no file
 abbrev pub blank : Print
 blank = record { size = 0; md5 = []; sha1 = []; sha256 = [] }
 
@@ -110,7 +110,7 @@ prints p x n (f ∷ fs) =
       | false ↦ prints p x n fs
     ]
 
--- where no path stands twice it is the one that is found
+-- if no path stands twice, the last print is the one that is found
 pub last_print-find : (p : List ℕ) (x : Print) (fs : List PoolFile) → T (is_sorted text_order (map pair_of fs)) → last_print p x fs ≡ unwrap_or (find text_order p (map pair_of fs)) x
 last_print-find p x [] s = refl
 last_print-find p x (f ∷ fs) s =
@@ -128,7 +128,7 @@ count_positive p (f ∷ fs) x e = by_kind (eq_by_cmp text_order p f.0) e (count_
     by_kind true e again c = omega (arith, c)
     by_kind false e again c = omega (arith, c, again e)
 
--- what is counted at a path is so many references to the print that is found there
+-- what is kept at a path is the print that is found there and the number of references
 pub shared_found : (p : List ℕ) (files : List (List ℕ × Print)) (x : Print) → find text_order p files ≡ Some x → shared_at p files ≡ shared_by x (count_at p files)
 unfolding shared_at
 shared_found p files x found =

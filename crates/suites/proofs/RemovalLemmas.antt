@@ -28,7 +28,7 @@ use Rattle.suites.proofs.MapChanges.{get-without}
 use Rattle.suites.proofs.PoolStep.{pool-step}
 use Rattle.suites.proofs.ShownLemmas.{shown-push}
 
--- ---- of all items, those of some shelves alone
+-- ---- the items of some shelves alone
 
 module _ {X : Type 0} (version : X → List ℕ) (kept : ShelfKey → Bool) where
   abbrev left : List (ShelfKey × X) → List (ShelfKey × X)
@@ -102,7 +102,7 @@ module _ {X : Type 0} (version : X → List ℕ) (kept : ShelfKey → Bool) wher
 
 -- ---- the step of a removal
 
--- the shelf is none that a removal takes from
+-- the shelf is not one that a removal takes from
 abbrev pub is_left : ℕ → List ℕ → ShelfKey → Bool
 is_left suite name key = not (nat_eq key.suite suite && bytes_eq key.«package» name)
 
@@ -116,7 +116,7 @@ module _ (old : ShelvesValue) (suite : ℕ) (name : List ℕ) where
       ∙ ap (λ o. cond (is_some (cond (is_left suite name q) None o)) None (get old q)) (sym (get-entries old q))
       ∙ either (is_left suite name q) (get old q)
     where
-      -- of the entries that a removal takes, the one of a shelf
+      -- the entry of a shelf among those that a removal takes
       among : (es : List (ShelfKey × Item)) → find key_order q (filter (is_removed suite name) es) ≡ cond (is_left suite name q) None (find key_order q es)
       among [] = sym (neither (is_left suite name q))
         where
@@ -172,7 +172,7 @@ module _ (old : ShelvesValue) (suite : ℕ) (name : List ℕ) where
     agreed = λ path a b p q. sound.agreed path a b (files_before (path, a) p) (files_before (path, b) q);
   }
 
-  -- what goes was shown, and is shown no more
+  -- what goes was shown, and is no longer shown
   gone : (e : ShelfKey × Item) → Contains (removed old suite name) e → (get old e.0 ≡ Some e.1) × (get (after_removal old suite name) e.0 ≢ Some e.1)
   unfolding removed is_removed
   gone e h =
@@ -201,14 +201,14 @@ module _ (old : ShelvesValue) (suite : ℕ) (name : List ℕ) where
     sound = sound_after sound;
   }
 
-  -- what is left is as records tell it
+  -- what is left is as records say
   pub told_after_removal : (suites : List Suite) → AreTold suites old → AreTold suites (after_removal old suite name)
   told_after_removal suites are = record {
     told = all_from (λ e. IsTold e.1) (entries (after_removal old suite name)) (λ e h. All-contains (λ e. IsTold e.1) (entries old) e are.told (entry_before e h));
     kept = all_from (λ e. is_kept_by suites e ≡ true) (entries (after_removal old suite name)) (λ e h. All-contains (λ e. is_kept_by suites e ≡ true) (entries old) e are.kept (entry_before e h));
   }
 
--- WHERE ALL ITEMS of the package are taken out of those ever admitted, what is shown is what a removal leaves.
+-- IF ALL ITEMS of the package are taken out of those ever admitted, what is shown is what a removal leaves.
 pub shown-removed : {X : Type 0} (version : X → List ℕ) (suite : ℕ) (name : List ℕ) (xs : List (ShelfKey × X)) (q : ShelfKey)
     → get (shown version (filter (λ e. is_left suite name e.0) xs)) q ≡ cond (is_left suite name q) (get (shown version xs) q) None
 shown-removed version suite name xs q = get-shown-left version (is_left suite name) xs q

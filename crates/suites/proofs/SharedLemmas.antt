@@ -22,7 +22,7 @@ no_length (x ∷ es) e = absurd (omega arith)
 pub entries-empty : {K : Type 0} (R : K → K → Ordering) (X : Type 0) → entries (empty {X = X} {R = R}) ≡ []
 entries-empty R X = no_length _ (sym (len-entries empty) ∙ len-empty R X)
 
--- the print where a file is shared
+-- the print of a shared file is the one that is found at the path
 pub print-shared_at : (p : List ℕ) (fs : List (List ℕ × Print)) → option_map (λ (f : SharedFile). f.print) (shared_at p fs) ≡ find text_order p fs
 unfolding shared_at
 print-shared_at p fs = of_option (count_at p fs) (find text_order p fs)
@@ -65,7 +65,7 @@ unfolding sharing
 sharing_none n None e = refl
 sharing_none n (Some x) e = cc
 
--- the number of references where a file is shared, and where none is
+-- the number of references if a file is shared, and if none is
 pub count-shared_at : (p : List ℕ) (fs : List (List ℕ × Print)) (f : SharedFile) → shared_at p fs ≡ Some f → f.references ≡ count_at p fs
 unfolding shared_at sharing
 count-shared_at p fs f e = count_sharing (count_at p fs) (find text_order p fs) f e

@@ -80,7 +80,7 @@ at_least-above u v w p q =
       | Greater ↦ λ e h. less_trans w v u q (ap is_lt (version_cmp_total.antisymm v u ∙ ap ordering_reverse e))
     ] refl p
 
--- and at least w, where v is at least w
+-- u is at least v, and v at least w
 at_least-trans : (u v w : List ℕ) → is_at_least u v ≡ true → is_at_least v w ≡ true → is_at_least u w ≡ true
 unfolding is_above is_at_least
 at_least-trans u v w p q =
@@ -158,7 +158,7 @@ module _ {X : Type 0} (version : X → List ℕ) where
         | false ↦ λ at. ap (λ b. b || list_any (λ z. covers version z y) ws) (covers-parts w y false _ (flipped y.0 w.0 false at) refl) ∙ rest
       ] refl
 
-  -- where no item covers y, those at its key go, and no others
+  -- if no item covers y, those at its key go, and no others
   gone-filter : (q : ShelfKey) (y : ShelfKey × X) (hs : List (ShelfKey × X)) → same q y.0 ≡ true → list_any (λ z. covers version z y) hs ≡ false → found q (filter (λ w. not (beats version y w)) hs) ≡ None
   unfolding same
   gone-filter q y [] at none = refl
@@ -275,7 +275,7 @@ module _ {X : Type 0} (version : X → List ℕ) where
   pub shown_after-push : (m : ShelvesWith X) (xs : List (ShelfKey × X)) (a : ShelfKey × X) → shown_after version m (xs ++ a ∷ []) ≡ with_admitted version (shown_after version m xs) a
   shown_after-push m xs a = ap (shown version) (sym (append_assoc (entries m) xs (a ∷ []))) ∙ shown-push (entries m ++ xs) a
 
-  -- What is shown tells all that matters of what was ever admitted.
+  -- What is shown says all that matters of what was ever admitted.
   pub shown_after-shown : (xs ys : List (ShelfKey × X)) → shown_after version (shown version xs) ys ≡ shown version (xs ++ ys)
   shown_after-shown xs ys =
       by_pushes (λ done. shown_after version (shown version xs) done ≡ shown version (xs ++ done))

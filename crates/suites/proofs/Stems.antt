@@ -18,7 +18,7 @@ pub counted : (suffix : List ℕ) (entries : List Entry) → length (filter (λ 
 unfolding names_with
 counted suffix entries = sym (ap length (filter-map (has_suffix suffix) (λ e. e.name) entries) ∙ length-map (filter (λ e. has_suffix suffix e.name) entries) (λ e. e.name))
 
--- a front is among the stems where some name is it and then the suffix
+-- a front is among the stems if and only if some name is the front and then the suffix
 pub among_stems : (suffix : List ℕ) (entries : List Entry) (front : List ℕ)
     → is_among (stems suffix entries) front ≡ list_any (λ e. has_suffix suffix e.name && bytes_eq front (stem suffix e.name)) entries
 unfolding stems names_with

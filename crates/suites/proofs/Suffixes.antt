@@ -6,7 +6,7 @@ use Rattle.sums.proofs.Booleans.{neither}
 use Rattle.suites.specs.Upload.{has_suffix}
 use Rattle.suites.specs.Verdict.{is_package_part}
 
--- the last byte, 0 where there is none
+-- the last byte, 0 if there is none
 abbrev last_byte : List ℕ → ℕ
 last_byte [] = 0
 last_byte (b ∷ []) = b

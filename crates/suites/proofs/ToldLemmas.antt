@@ -1,4 +1,4 @@
--- What is shown stays as records tell it.
+-- What is shown stays as records say.
 use Rattle.std.proofs.Common.{◌≡◌, ◌⊎◌, inl, inr, ℕ, Bool, true, false, cond, ◌&&◌, ◌||◌, List, [], ◌∷◌, ◌++◌, map, filter, filter_map, codes, Option, Some, None, option_map, option_to_list, Result, Ok, Err, refl, sym, ap, ◌∙◌, subst, bytes_eq}
 use Rattle.std.specs.Prelude.{Contains, option_and_then, slice_get, nat_eq}
 use Rattle.std.specs.FinMap.{empty, entries, get-from_entries}
@@ -61,7 +61,7 @@ shown_or_admitted shelves items e h =
     (member_found key_order-IsAntisymmetric e.0 e.1 kept
     (sym (get-from_entries key_order_total kept e.0) ∙ shown_entry (shown_after version_of shelves items) e h)))
 
--- the item is as its paragraph tells it, and its suite keeps it
+-- the item is as its paragraph says, and its suite keeps it
 abbrev IsTrue : List Suite → ShelfKey × Item → Type 0
 IsTrue suites e = IsTold e.1 × (is_kept_by suites e ≡ true)
 
@@ -111,13 +111,13 @@ copied_true config shelves from to source are e h =
       kept_at config.suites target.0 (standing to a.0.1) (only (slice_get config.suites to) target.0 target.1) keeps.0 keeps.1,
     )
 
--- WHAT IS SHOWN after a copy is as records tell it, where it was before.
+-- WHAT IS SHOWN after a copy is as records say, if it was before.
 pub told_after_copy : (config : ConfigValue) (shelves : ShelvesValue) (from to : ℕ) (source : List ℕ) → AreTold config.suites shelves
     → AreTold config.suites (after_copy config shelves from to source)
 told_after_copy config shelves from to source are =
     told_after config.suites shelves (copied config shelves from to source) are (copied_true config shelves from to source are)
 
--- WHERE NOTHING IS SHOWN all is as records tell it.
+-- IF NOTHING IS SHOWN, all is as records say.
 pub told_empty : (suites : List Suite) → AreTold suites empty
 told_empty suites = record {
   told = rw (entries-empty key_order Item) (All-nil (λ e. IsTold e.1));
@@ -126,7 +126,7 @@ told_empty suites = record {
 
 -- ---- the items of an accepted upload
 
--- what a .dsc lists goes where the item's files stand
+-- what a .dsc lists goes to the paths of the item's files
 all_listed : (c : ChangesValue) (component : List ℕ) (p : Part) (d : DscValue) (entries : List Entry)
     → map file_of (map (file_at (λ e. e.print) c component) entries) ≡ map (listed_file (item_of (source_item (λ e. e.print) c component p d))) entries
 all_listed c component p d [] = refl
@@ -158,7 +158,7 @@ is_binary c component p s f read own found named = record {
       ∙ ap (λ name. pool_path component c.source name ∷ []) named;
 }
 
--- where the suite stands that claims the upload
+-- the place of the suite that claims the upload
 suite_at : (config : ConfigValue) (c : ChangesValue) (place : ℕ) (s : Suite) → suite_of config c ≡ Some s → claiming c.distribution config.suites ≡ Some place
     → slice_get config.suites place ≡ Some s
 unfolding suite_of
@@ -254,7 +254,7 @@ admitted_true config shelves u upload e h =
     let in_all = let_in (verdict_on config shelves u) (map printed (given config u (items_of (λ e. e.print) u (component u.changes)))) e h in
     given_true config shelves u upload (is_accepted config shelves u in_all.0) e in_all.1
 
--- WHAT IS SHOWN after an upload is as records tell it, where it was before.
+-- WHAT IS SHOWN after an upload is as records say, if it was before.
 pub told_after_upload : (config : ConfigValue) (shelves : ShelvesValue) (u : UploadValue) → IsUpload u → AreTold config.suites shelves
     → AreTold config.suites (after_upload config shelves u)
 told_after_upload config shelves u upload are =

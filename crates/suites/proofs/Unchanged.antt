@@ -19,7 +19,7 @@ use Rattle.suites.specs.Plan.{IsStep, references}
 use Rattle.suites.specs.Shelves.{ShelvesValue, AreSound, covers, beats, shown, shown_after, version_of}
 use Rattle.suites.specs.declared.key.ShelfKey.{ShelfKey}
 
--- ---- what is shown stays, where nothing is admitted
+-- ---- what is shown stays if nothing is admitted
 
 left : (a b : Bool) → T (a && b) → T a
 left true b h = tt

@@ -21,7 +21,7 @@ use Rattle.suites.specs.Verdict.{by_print, is_missing_file, is_taken, path_of}
 use Rattle.suites.proofs.PoolLookups.{get-pool_of}
 use Rattle.suites.proofs.Prints.{same_print-equal}
 
--- What an accepted upload lists: the entries of its .changes and those of its .dsc, none where it has no .dsc.
+-- What an accepted upload lists: the entries of its .changes and those of its .dsc, none if it has no .dsc.
 pub record ListsAgree (shelves : ShelvesValue) (c : ChangesValue) (entries : List Entry) : Type 0 where
   pub changes : AllPairs (λ a b. a.name ≢ b.name) c.entries
   pub dsc : AllPairs (λ a b. a.name ≢ b.name) entries
@@ -30,7 +30,7 @@ pub record ListsAgree (shelves : ShelvesValue) (c : ChangesValue) (entries : Lis
   pub there : (f : Entry) → Contains entries f → is_missing_file by_print (pool shelves) c f ≡ false
   pub free : (e : Entry) → Contains c.entries e → is_taken by_print (pool shelves) c e ≡ false
 
--- an entry whose file is one of an item: of the .changes, but no sidecar, or of the .dsc
+-- an entry whose file is one of an item: an entry of the .changes that is not a sidecar, or one of the .dsc
 abbrev pub IsFile : ChangesValue → List Entry → Entry → Type 0
 IsFile c entries e = (Contains c.entries e × (has_suffix (codes ".control") e.name ≡ false)) ⊎ Contains entries e
 
@@ -64,7 +64,7 @@ not_missing listed held p q s h e =
     let free : not (same_print p q) ≡ false = sym (ap (λ b. not b && not (option_map_or (λ there. same_print there q) held false)) s ∙ ap (λ o. not (option_map_or (λ there. same_print there q) o false)) h) ∙ e in
     same_print-equal p q (passed (same_print p q) free)
 
--- a listed file that is no sidecar has the print that the pool holds at its path
+-- a listed file that is not a sidecar has the print that the pool holds at its path
 changes_print : (shelves : ShelvesValue) (c : ChangesValue) (entries : List Entry) (e : Entry) (p : Print) → ListsAgree shelves c entries
     → Contains c.entries e → has_suffix (codes ".control") e.name ≡ false → get (pool shelves) (path_of c e) ≡ Some p → p ≡ e.print
 unfolding is_taken
@@ -83,7 +83,7 @@ find_named : (name : List ℕ) (entries : List Entry) (g : Entry) → find (λ e
 find_named name [] g h = cc
 find_named name (e ∷ rest) g h = found_named name e rest g (bytes_eq e.name name) refl h (find_named name rest g)
 
--- the entry of a name is one of the list, of that name
+-- the entry of a name is an entry of the list, and has that name
 pub entry_named-Contains : (name : List ℕ) (entries : List Entry) (g : Entry) → entry_named name entries ≡ Some g → Contains entries g × (g.name ≡ name)
 unfolding entry_named
 entry_named-Contains name entries g h = find_named name entries g h
@@ -105,7 +105,7 @@ pub pool_print : (shelves : ShelvesValue) (c : ChangesValue) (entries : List Ent
 pool_print shelves c entries e p agree (inl q) held = changes_print shelves c entries e p agree q.0 q.1 held
 pool_print shelves c entries e p agree (inr q) held = dsc_print shelves c entries e p agree q held (entry_named e.name c.entries) refl
 
--- the same of a shown file at that path
+-- a file of an item has the print of a shown file at its path
 pub shown_print : (shelves : ShelvesValue) (c : ChangesValue) (entries : List Entry) (e : Entry) (p : Print) → ListsAgree shelves c entries → AreAgreed (files_of (values shelves))
     → IsFile c entries e → Contains (files_of (values shelves)) (path_of c e, p) → p ≡ e.print
 shown_print shelves c entries e p agree sound file shown =

@@ -15,7 +15,7 @@ use Rattle.suites.specs.declared.items.BinaryPart.{BinaryPart}
 use Rattle.suites.specs.declared.items.SourcePart.{SourcePart}
 use Rattle.suites.specs.declared.verdict.Parts.{Parts}
 
--- the item of the .dsc, where there is one
+-- the item of the .dsc, if there is one
 abbrev pub source_items : ChangesValue → List ℕ → Option SourcePart → List (ItemWith Print)
 source_items c component source = map (λ s. source_item (λ e. e.print) c component (part_of s.part) s.dsc) (option_to_list source)
 
@@ -79,7 +79,7 @@ items_more c component source binaries i b items item within is so_far made =
     ∙ ap (map item_of) (append_assoc before (map given (take i binaries)) (given b ∷ []))
     ∙ ap (λ xs. map item_of (before ++ xs)) (sym more)
 
--- all of them
+-- the items of all the sidecars
 pub items_all : (u : UploadValue) (component : List ℕ) (found : Parts) (i : ℕ) (items : List Item) → AreParts u found → length found.binaries.items ≤ i
     → items ≡ map item_of (source_items u.changes component found.source ++ binary_items u.changes component (take i found.binaries.items))
     → items ≡ map item_of (items_of (λ e. e.print) u component)

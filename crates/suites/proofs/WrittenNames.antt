@@ -13,7 +13,7 @@ use Rattle.suites.specs.Told.{deb_file}
 use Rattle.suites.specs.Verdict.{dsc_file, sidecar_file}
 use Rattle.suites.specs.Pool.{front_of, is_continuation, prefix_of, directory_of, pool_path}
 
--- a byte at which a text may be cut goes on with no character
+-- a byte at which a text may be cut does not continue a character
 goes_on : (n : ℕ) (text : List ℕ) → IsCharBoundary text n → is_continuation (get_or text n 0) ≡ false
 goes_on n text h = grind (arith, nat_tests, h.1, get_or_past text n 0)
 

@@ -22,7 +22,7 @@ use Rattle.suites.specs.declared.key.ShelfKey.{ShelfKey}
 abbrev pub deb_file : SidecarValue → List ℕ
 deb_file s = s.name ++ codes "_" ++ without_epoch s.version ++ codes "_" ++ s.architecture ++ codes ".deb"
 
--- where a file of an item stands
+-- the path in the pool of a file of an item
 abbrev pub path_in : Item → List ℕ → List ℕ
 path_in item name = pool_path item.component item.source name
 

@@ -33,7 +33,7 @@ has_suffix suffix name = ends_with nat_eq name suffix
 unfoldable pub has_text : List ℕ → Bool
 has_text name = has_suffix (codes ".dsc") name || has_suffix (codes ".control") name
 
--- the text is the entry's body, or there is none
+-- the text of an entry is its body, or is empty
 pub record IsTextOf (p : Part) : Type 0 where
   pub body : has_text p.0.name ≡ true → print_of p.1 ≡ p.0.print
   pub none : has_text p.0.name ≡ false → p.1 ≡ []

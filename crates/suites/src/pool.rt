@@ -85,7 +85,7 @@ fn push_file_if(
     Ok(())
 }
 
-/// Of the files that references come to, those that the pool lacks.
+/// The files that references come to and that the pool lacks.
 fn added_files(
     alloc: Global,
     shelves: &Shelves,
@@ -117,7 +117,7 @@ fn is_unused(
     }
 }
 
-/// Of the files that references go from, those to which none is left.
+/// The files that references go from and to which no reference is left.
 fn removed_files(
     alloc: Global,
     shelves: &Shelves,

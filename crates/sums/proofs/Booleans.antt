@@ -17,7 +17,7 @@ pub denied : (b : Bool) → not b ≡ true → b ≡ false
 denied true h = cc
 denied false h = refl
 
--- the first of several faults is none where its test fails and the rest has none
+-- the first of several faults is `None` only if its test fails and the rest is `None`
 pub none_of : {X : Type 0} (b : Bool) (x : X) (y : Option X) → cond b (Some x) y ≡ None → (b ≡ false) × (y ≡ None)
 none_of true x y h = cc
 none_of false x y h = (refl, h)

@@ -71,7 +71,7 @@ digest_read n text h =
     let half : eqb (length text / 2) n ≡ true = grind (arith, nat_tests) in
     rw (even, half) (pairs_read 0 n text long parts.1)
 
--- and is the text of these
+-- the text of a digest is the text of the bytes that it writes
 texts_back : (n : ℕ) (text : List ℕ) → length text ≡ 2 * n → list_all is_lower_hex text ≡ true → encode_lower (unhexed text) ≡ text
 unfolding encode_with
 texts_back n [] e h = refl

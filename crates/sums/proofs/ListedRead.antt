@@ -27,7 +27,7 @@ list_of : (o : Option FieldValue) → is_none o ≡ false → unwrap_or (option_
 list_of None h k = cc
 list_of (Some f) h k = nothing f.first k
 
--- no fault applies where the lists are there and their lines have none
+-- no fault applies if the lists are there and their lines have no fault
 pub record NoFault (kind : ListKind) (p : List FieldValue) : Type 0 where
   pub sha1 : IsList (field_named sha1_name p)
   pub sha256 : IsList (field_named sha256_name p)

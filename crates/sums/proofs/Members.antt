@@ -1,4 +1,4 @@
--- Members of lists, tests over them, and members that a name tells apart.
+-- Members of lists, tests over them, and members that a name distinguishes.
 use Rattle.std.proofs.Common.{◌≡◌, ◌≢◌, ℕ, zero, suc, ◌<◌, ◌⊎◌, Bool, true, false, cond, List, [], ◌∷◌, map, Some, length, get_or, inl, inr, refl, sym, ap, subst, ◌∙◌, arith}
 use Rattle.std.proofs.lemmas.Bool.{cases_lt}
 use Rattle.std.proofs.lemmas.List.{get_or_default}
@@ -85,7 +85,7 @@ pub map_same : {X : Type 0} (f : X → X) (xs : List X) → ((x : X) → Contain
 map_same f [] h = refl
 map_same f (x ∷ xs) h = let e = h x (here x xs) in let more = map_same f xs (λ y k. h y (there x y xs k)) in λ i. e i ∷ more i
 
--- of members with different names two with the same name are one
+-- if the names of members differ, two members with the same name are one
 pub by_name : {X Y : Type 0} (n : X → Y) (xs : List X) (a b : X) → AllPairs (λ x y. n x ≢ n y) xs → Contains xs a → Contains xs b → n a ≡ n b → a ≡ b
 by_name n xs a b h p q e =
     let other : get_or xs q.0 a ≡ b = get_or_default xs q.0 a b q.1 ∙ q.2 in

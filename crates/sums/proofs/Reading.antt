@@ -136,7 +136,7 @@ joined n form files others l g a k =
       },
     )
 
--- so the first line of its name has a digest
+-- the first line of a file's name in another list has a digest
 pub named_digest : (n : ℕ) (form : LineForm) (files others : List (List ℕ)) (l : List ℕ) → IsGoodList (three_words n) others → Agree (three_words n) others form files → Contains files l
     → is_digest n (digest_word (unwrap_or (find (λ line. bytes_eq (word line 2) (name_word form l)) others) [])) ≡ true
 named_digest n form files others l g a k =

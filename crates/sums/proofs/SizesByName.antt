@@ -56,7 +56,7 @@ once_push xs x h none =
     let other : list_any (λ y. bytes_eq y.name x.name) xs ≡ false = any_same (λ y. bytes_eq y.name x.name) (λ y. bytes_eq x.name y.name) xs (λ y. bytes_sym y.name x.name) ∙ none_named xs x.name none in
     twice_push xs x ∙ rw (h, other) refl
 
--- a name that has a size stands twice with one more
+-- if a name has a size, it stands twice once one more file has it
 pub twice_found : (xs ys : List NameAndSize) (x : NameAndSize) (s : List ℕ) → size_named xs x.name ≡ Some s → has_twice (xs ++ x ∷ ys) ≡ true
 twice_found [] ys x s h = cc
 twice_found (y ∷ zs) ys x s h = by_case (bytes_eq x.name y.name) refl h (λ e. twice_found zs ys x s e)
@@ -128,7 +128,7 @@ sizes_more files i sizes new None a h e t u =
 
 -- ---- lists that disagree
 
--- a file stands in a list exactly where its name has its size there
+-- a file stands in a list if and only if its name has its size there
 size_found : (x : NameAndSize) (ys : List NameAndSize) → has_twice ys ≡ false → is_size_of x (size_named ys x.name) ≡ list_any (same_file x) ys
 size_found x [] h = refl
 size_found x (y ∷ ys) h =

@@ -16,13 +16,13 @@ or_none : (b : Bool) → (b || false) ≡ b
 or_none true = refl
 or_none false = refl
 
--- a test of one more line, behind what was before
+-- a test of one more line, after those of the lines before
 tested : (b : Bool) (test : List ℕ → Bool) (xs : List (List ℕ)) (x : List ℕ) → ((b || list_any test xs) || test x) ≡ (b || list_any test (xs ++ x ∷ []))
 tested b test xs x =
     or_assoc b (list_any test xs) (test x)
     ∙ sym (ap (λ c. b || c) (list_any-append test xs (x ∷ []) ∙ ap (λ c. list_any test xs || c) (or_none (test x))))
 
--- where no check fails, none failed before
+-- if no check fails, none failed before
 none_before : (f : Failed) (a b c d : Bool) → (((f.words || a) || (f.digest || b)) || (f.size || c) || (f.name || d)) ≡ false → any_failed f ≡ false
 none_before f a b c d h =
     let p = neither (((f.words || a) || (f.digest || b)) || (f.size || c)) (f.name || d) h in
@@ -59,7 +59,7 @@ split_kept before f form xs lines x s h = record {
   kept = λ k. ap (λ ls. ls ++ x ∷ []) (s.kept (none_before f (has_bad_words form x) (has_bad_digest form x) (has_bad_size form x) (has_bad_name form x) h));
 }
 
--- one more line, of no use
+-- one more line, which is not kept
 pub split_past : (before f : Failed) (form : LineForm) (xs lines : List (List ℕ)) (x : List ℕ) → IsSplit before form xs f lines → any_failed (with_line f form x) ≡ true
     → IsSplit before form (xs ++ x ∷ []) (with_line f form x) lines
 split_past before f form xs lines x s h = record { failed = failed_on before f form xs x s.failed; kept = λ k. cc }
@@ -116,14 +116,14 @@ fault_found kind found f g h a b c e s k =
     first_fault (some_line has_bad_words kind found) (some_line has_bad_digest kind found) (some_line has_bad_size kind found) (some_line has_bad_name kind found) (fault_of_names kind found) e
     (sym (ap fault_of_failed (all_tried kind found f g h a b c s)) ∙ k)
 
--- where no check failed, the names are next
+-- if no check failed, the names are next
 names_next : (kind : ListKind) (found : Lines) (f g h : Failed) (a b c : List (List ℕ)) → InTurn kind found f g h a b c → fault_of_failed h ≡ None → fault_of_lines kind found ≡ fault_of_names kind found
 unfolding tried
 names_next kind found f g h a b c s k =
     no_fault (some_line has_bad_words kind found) (some_line has_bad_digest kind found) (some_line has_bad_size kind found) (some_line has_bad_name kind found) (fault_of_names kind found)
     (sym (ap fault_of_failed (all_tried kind found f g h a b c s)) ∙ k)
 
--- where no check failed, all lines are kept
+-- if no check failed, all lines are kept
 all_kept : (kind : ListKind) (found : Lines) (f g h : Failed) (a b c : List (List ℕ)) → InTurn kind found f g h a b c → fault_of_failed h ≡ None → record { sha1 = a; sha256 = b; files = c } ≡ found
 all_kept kind found f g h a b c s k =
     let last : any_failed h ≡ false = none_failed h.words h.digest h.size h.name k in

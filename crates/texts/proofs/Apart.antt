@@ -16,7 +16,7 @@ not_equal a b h = by_case (bytes_eq a b) refl
 abbrev pub PathsDiffer : PathText → PathText → Type 0
 PathsDiffer d e = d.0 ≢ e.0
 
--- a text whose path no other has is found there
+-- a text whose path no other text has is found there
 pub found_of_apart : (es : List PathText) (e : PathText) → AllPairs PathsDiffer es → Contains es e → text_at e.0 es ≡ Some e.1
 found_of_apart [] e h at = no_member e at
 found_of_apart (d ∷ es) e h at = elim (which d e es at) [
@@ -25,7 +25,7 @@ found_of_apart (d ∷ es) e h at = elim (which d e es at) [
       ∙ found_of_apart es e (pairs_tail PathsDiffer d es h) later
 ]
 
--- at a path that none has nothing is found
+-- at a path that no text has nothing is found
 pub none_of_others : (es : List PathText) (path : List ℕ) → ((e : PathText) → Contains es e → e.0 ≢ path) → text_at path es ≡ None
 none_of_others [] path h = text_at-nil path
 none_of_others (d ∷ es) path h = text_at-other path d es (not_equal d.0 path (h d (here d es))) ∙ none_of_others es path (λ e at. h e (there d e es at))

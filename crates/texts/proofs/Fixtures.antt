@@ -61,7 +61,7 @@ box = record {
   valid_days = None;
 }
 
--- the same, where a Release is valid for a week
+-- the suite `box`, with Releases that are valid for a week
 pub week : Suite
 week = record box { valid_days = Some 7 }
 
@@ -135,7 +135,7 @@ index_with path size md5 sha1 sha256 = record {
 pub empty_index : List ℕ → Index
 empty_index path = index_with path 0 (codes "d41d8cd98f00b204e9800998ecf8427e") (codes "da39a3ee5e6b4b0d3255bfef95601890afd80709") (codes "e3b0c44298fc1c149afbf4c8996fb92427ae41e4649b934ca495991b7852b855")
 
--- that of the package
+-- the index with the stanza of the package
 pub packages_index : Index
 packages_index = index_with (codes "main/binary-amd64/Packages") 324 (codes "91ad950fbd1207eb0a8881de4c58ee3a") (codes "31bf4b5b86f1637ecb8550ee13a0185998725361") (codes "d88ffa788e1b5fa0de33afc8763bc11a7860e2418858ad9c6776679e32c83d77")
 

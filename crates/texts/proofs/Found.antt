@@ -28,7 +28,7 @@ text_at-found path e es h = text_at-cons path e es true h
 pub text_at-other : (path : List ℕ) (e : PathText) (es : List PathText) → bytes_eq e.0 path ≡ false → text_at path (e ∷ es) ≡ text_at path es
 text_at-other path e es h = text_at-cons path e es false h
 
--- the first list decides, where it has the path
+-- the first list decides if it has the path
 abbrev or_later : Option (List ℕ) → Option (List ℕ) → Option (List ℕ)
 or_later None later = later
 or_later (Some text) later = Some text
@@ -47,7 +47,7 @@ text_at-append path (e ∷ xs) later = or_first path e xs later (bytes_eq e.0 pa
 pub found_front : (path : List ℕ) (xs later : List PathText) (text : List ℕ) → Some text ≡ text_at path xs → Some text ≡ text_at path (xs ++ later)
 found_front path xs later text h = ap (λ (o : Option (List ℕ)). or_later o (text_at path later)) h ∙ sym (text_at-append path xs later)
 
--- the list at the front lacks it
+-- the list at the front lacks the path
 pub none_front : (path : List ℕ) (xs later : List PathText) → None ≡ text_at path xs → text_at path later ≡ text_at path (xs ++ later)
 none_front path xs later h = ap (λ (o : Option (List ℕ)). or_later o (text_at path later)) h ∙ sym (text_at-append path xs later)
 
@@ -56,7 +56,7 @@ module _ {X : Type 0} (path : List ℕ) (xs : List X) (i : ℕ) (x : X) (inside 
   next : drop i xs ≡ x ∷ drop (i + 1) xs
   next = drop_more xs i x inside ∙ ap (λ (y : X). y ∷ drop (i + 1) xs) (sym here)
 
-  -- of one text each
+  -- elements with one text each
   pub found_at : (entry : X → PathText) → bytes_eq (entry x).0 path ≡ true → Some (entry x).1 ≡ text_at path (map entry (drop i xs))
   found_at entry h =
       sym (text_at-found path (entry x) (map entry (drop (i + 1) xs)) h)
@@ -67,7 +67,7 @@ module _ {X : Type 0} (path : List ℕ) (xs : List X) (i : ℕ) (x : X) (inside 
       sym (text_at-other path (entry x) (map entry (drop (i + 1) xs)) h)
       ∙ ap (λ (ys : List X). text_at path (map entry ys)) (sym next)
 
-  -- of several texts each
+  -- elements with several texts each
   pub found_in : (texts : X → List PathText) (text : List ℕ) → Some text ≡ text_at path (texts x) → Some text ≡ text_at path (flat_map texts (drop i xs))
   found_in texts text h =
       found_front path (texts x) (flat_map texts (drop (i + 1) xs)) text h
@@ -126,7 +126,7 @@ same_front : (front a b : List ℕ) → bytes_eq (front ++ a) (front ++ b) ≡ b
 same_front [] a b = refl
 same_front (c ∷ front) a b = rw (same_byte c) (same_front front a b)
 
--- the same texts by their paths behind the folder
+-- a text with the folder in front of its path
 abbrev pub behind : List ℕ → PathText → PathText
 behind folder e = (folder ++ e.0, e.1)
 

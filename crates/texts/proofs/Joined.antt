@@ -6,7 +6,7 @@ use Rattle.std.proofs.lemmas.List.Elements.{filter-append}
 use Rattle.para.specs.Bytes.{is_nil}
 use Rattle.texts.specs.Release.{is_source}
 
--- what is put behind the names
+-- what is put after the names
 abbrev pub behind : Bool → List ℕ → List ℕ
 behind begun name = if begun then 32 ∷ name else name
 

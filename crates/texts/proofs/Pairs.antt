@@ -66,7 +66,7 @@ pairs_flat R S f (x ∷ xs) own h k =
     let found = in_flat f xs b later in
     h x found.0 (here x xs) (there x found.0 xs found.1) (all_at (S x) xs found.0 (pairs_head S x xs k) found.1) a b mine found.2)
 
--- what is made of elements differs, so these do
+-- if what is made of elements differs, the elements differ
 pub pairs_unmap : {X Y : Type 0} (R : Y → Y → Type 0) (f : X → Y) (xs : List X) → AllPairs R (map f xs) → AllPairs (λ x y. R (f x) (f y)) xs
 pairs_unmap R f xs h = λ i j d below within.
     let at : get_or (map f xs) i (f d) ≡ f (get_or xs i d) = get_or-map f xs i d (f d) (omega arith) in

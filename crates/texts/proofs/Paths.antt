@@ -44,7 +44,7 @@ tail_of (c ∷ cs) = cs
 pub joined : (c d : ℕ) (cs ds : List ℕ) → c ≡ d → cs ≡ ds → c ∷ cs ≡ d ∷ ds
 joined c d cs ds p q = ap (λ (e : ℕ). e ∷ cs) p ∙ ap (λ (es : List ℕ). d ∷ es) q
 
--- what stands before the first slash, and behind it
+-- what stands before the first slash, and after it
 pub split_slash : (c d r t : List ℕ) → NoSlash c → NoSlash d → c ++ 47 ∷ r ≡ d ++ 47 ∷ t → (c ≡ d) × (r ≡ t)
 split_slash [] [] r t p q e = (refl, ap tail_of e)
 split_slash [] (y ∷ d) r t p q e = absurd (q.0 (sym (ap head_of e)))
@@ -73,7 +73,7 @@ architecture_no_slash name h =
 
 -- ---- paths in the folder of a suite
 
--- the path of an index that is none of sources, from its first slash
+-- the path of an index of packages, from its first slash
 pub spread : (c a : List ℕ) → c ++ codes "/binary-" ++ a ++ codes "/Packages" ≡ c ++ (codes "/binary-" ++ (a ++ codes "/Packages"))
 spread c a = append_assoc (c ++ codes "/binary-") a (codes "/Packages") ∙ append_assoc c (codes "/binary-") (a ++ codes "/Packages")
 
@@ -158,7 +158,7 @@ different_pairs (name ∷ names) h =
     (all_from (λ d. name ≢ d) names (λ d at e. cc (sym ((bytes_eq-Decides name d).1 e) ∙ any_false (bytes_eq name) names d (denied (is_among names name) parts.0) at)))
     (different_pairs names parts.1)
 
--- What holds of plain names, of names of architectures and of none.
+-- What holds of plain names, of names of architectures and of the empty text.
 pub record HoldsOfNames (P : List ℕ → Type 0) : Type 0 where
   pub none : P []
   pub plain : (name : List ℕ) → is_plain_name name ≡ true → P name

@@ -15,7 +15,7 @@ use sums::Print;
 /// The number of bytes for which a stanza gets room at once. It grows if it has more.
 pub const USUAL_STANZA: usize = 1024;
 
-/// The paragraph that the text of an item spells; nothing if it spells none, or is longer than a .dsc may be.
+/// The paragraph that the text of an item spells; `None` if it does not spell one, or is longer than a .dsc may be.
 #[tactic(auto, unfolding(crate::specs::Stanzas::fields_of_text))]
 pub fn paragraph_in<'a>(alloc: Global, text: &'a str) -> Result<Option<Paragraph<'a>>, AllocError>
     ensures { IfOk result (λ found. MatchOption found (fields_of_text text.now ≡ []) (λ paragraph. fields_of_text text.now ≡ paragraph)) }

@@ -12,7 +12,7 @@ abbrev pub AreAgreed : List PoolFile → Type 0
 AreAgreed files = (f g : PoolFile) → Contains files f → Contains files g → f.path ≡ g.path → f.print ≡ g.print
 
 module _ (new : ℕ → List PoolFile) where
-  -- Behind writes of files of the pool each of these is there that was written, or was there.
+  -- After writes of files of the pool, each of these files is there that was written or was there.
   pub placed_all : (files : List PoolFile) → AreAgreed files → (written : List PoolFile) → ((f : PoolFile) → Contains written f → Contains files f) → (t : Tree)
       → (f : PoolFile) → Contains files f → Contains written f ⊎ (t.pool f.path ≡ Some f.print) → (left_by new t (map Place written)).pool f.path ≡ Some f.print
   placed_all files agreed [] of_pool t f h w = elim w [
@@ -31,7 +31,7 @@ module _ (new : ℕ → List PoolFile) where
         | inr e ↦ inr e
       ]))
 
-  -- Behind these suites show their new indices each of them does.
+  -- After the steps by which suites show their new indices, each of them shows its new index.
   pub shown_all : (suites : List ℕ) (t : Tree) (suite : ℕ) → Contains suites suite ⊎ (t.named suite ≡ new suite) → (left_by new t (map Show suites)).named suite ≡ new suite
   shown_all [] t suite w = elim w [
     | inl k ↦ no_member suite k
@@ -49,7 +49,7 @@ module _ (new : ℕ → List PoolFile) where
         | inr e ↦ inr e
       ]))
 
-  -- Behind removals each path that was removed has nothing.
+  -- After removals, each path that was removed has nothing.
   pub removed_all : (paths : List (List ℕ)) (t : Tree) (path : List ℕ) → Contains paths path ⊎ (t.pool path ≡ None) → (left_by new t (map Remove paths)).pool path ≡ None
   removed_all [] t path w = elim w [
     | inl k ↦ no_member path k

@@ -106,7 +106,7 @@ module _ (there : List ℕ → Option Print) (files : List PoolFile) (suites : L
       (at_each new (λ t i. record { now = i.0; before = i.1 }) (planned there files suites left) tree
       (sound there files suites left agreed tree new begun (λ o f. o ≡ Some f.print) (λ f. refl) (λ suite f g named h same. ap Some (sym (firm suite f g named h same))) shown))
 
-  -- wherever it is stopped, the next export may begin
+  -- wherever the export is stopped, the next one may begin
   pub goes_on_at_each : AreAgreed files → (tree : Tree) (new : ℕ → List PoolFile) → IsBegun there left tree → AreShown files new → IsFirm files tree
       → AtEach new (IsBegun (λ path. None) (kept_back files left)) tree steps
   goes_on_at_each agreed tree new begun shown firm = subst (λ s. AtEach new (IsBegun (λ path. None) (kept_back files left)) tree s) (sym is)
@@ -155,7 +155,7 @@ module _ (there : List ℕ → Option Print) (files : List PoolFile) (suites : L
       removal_stays t (Show n) k i = absurd k
       removal_stays t (Remove p) k i = at_path (λ o. o ≡ Some f.print) f.path p None (t.pool f.path) (λ same. cc (sym (among files f h) ∙ ap (is_among files) same ∙ k.1)) (λ other. i)
 
-  -- a suite that showed it, or is among these, shows what it is to show
+  -- a suite that showed its new index already, or is among these, shows what it is to show
   pub shown_in_the_end : (tree : Tree) (new : ℕ → List PoolFile) (suite : ℕ) → Contains suites suite ⊎ (tree.named suite ≡ new suite) → (left_by new tree steps).named suite ≡ new suite
   shown_in_the_end tree new suite h =
       let a = news there files suites left in
@@ -179,7 +179,7 @@ module _ (there : List ℕ → Option Print) (files : List PoolFile) (suites : L
       stays t (Show n) k i = absurd k
       stays t (Remove p) k i = i
 
-  -- what was left before, and is no file of the pool, is gone
+  -- what was left before and is not a file of the pool is gone
   pub gone_in_the_end : (tree : Tree) (new : ℕ → List PoolFile) (path : List ℕ) → Contains left path → is_among files path ≡ false → (left_by new tree steps).pool path ≡ None
   gone_in_the_end tree new path h free =
       let three = left_by new (left_by new (left_by new tree (news there files suites left)) (others there files suites left)) (map Show suites) in

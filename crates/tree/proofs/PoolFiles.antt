@@ -1,4 +1,4 @@
--- The files of the pool as a list: what is among them, that they agree, and that suites name no others.
+-- The files of the pool as a list: what is among them; they agree, and suites name no other files.
 use Rattle.std.proofs.Common.{◌≡◌, ℕ, Bool, true, false, ◌||◌, cond, List, [], ◌∷◌, map, filter, Some, refl, sym, ap, subst, ◌∙◌, bytes_eq}
 use Rattle.std.specs.Prelude.{Contains, is_some, nat_eq, String}
 use Rattle.std.specs.declared.alloc.Global.{Global}
@@ -38,7 +38,7 @@ any_key : (path : List ℕ) (es : List (List ℕ × Print)) → list_any (λ f. 
 any_key path [] = refl
 any_key path (e ∷ es) = λ i. same_test path e.0 i || any_key path es i
 
--- a file of the pool stands where the pool has something
+-- a file of the pool stands at a path if and only if the pool has something there
 pub among_pool : (shelves : ShelvesValue) (path : List ℕ) → is_some (get (pool shelves) path) ≡ is_among (pool_files shelves) path
 unfolding pool_files
 among_pool shelves path = contains_key-keys (pool shelves) path ∙ sym (any_key path (entries (pool shelves)))
@@ -52,7 +52,7 @@ pool_has shelves f h =
     subst (λ (g : PoolFile). get m g.path ≡ Some g.print) e.2
     (get-entries m e.0.0 ∙ All-contains (λ g. find text_order g.0 (entries m) ≡ Some g.1) (entries m) e.0 (found_at text_order_total (entries m) (entries_sorted m)) e.1)
 
--- and the other way round
+-- what the pool has at a path is a file of the list
 pub of_pool : (shelves : ShelvesValue) (f : PoolFile) → get (pool shelves) f.path ≡ Some f.print → Contains (pool_files shelves) f
 unfolding pool_files
 of_pool shelves f h =

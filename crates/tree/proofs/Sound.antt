@@ -1,4 +1,4 @@
--- An index names no file that is not there.
+-- Each file that an index names is there.
 use Rattle.std.proofs.Common.{◌≡◌, ℕ, ◌⊎◌, List, Option, Some, None, inl, inr, sym, ap, subst, ◌∙◌}
 use Rattle.std.specs.Prelude.{Contains}
 use Rattle.sums.specs.declared.print.Print.{Print}

@@ -55,7 +55,7 @@ module _ (new : ℕ → List PoolFile) where
   at_each f [] t h = f t h
   at_each f (s ∷ ss) t h = (f t h.0, at_each f ss (made new t s) h.1)
 
-  -- a walk behind a walk
+  -- a walk after a walk
   pub join : (P : Tree → Type 0) (xs ys : List Step) (t : Tree) → AtEach new P t xs → AtEach new P (left_by new t xs) ys → AtEach new P t (xs ++ ys)
   join P [] ys t a b = b
   join P (x ∷ xs) ys t a b = (a.0, join P xs ys (made new t x) a.1 b)

@@ -1,4 +1,4 @@
--- A word is new to the set exactly where none before it is the same.
+-- A word is new to the set if and only if none before it is the same.
 use Rattle.std.proofs.Common.{◌≡◌, ◌||◌, not, refl, sym, ap, ◌∙◌, ℕ, ◌+◌, Bool, true, false, cond, List, [], take, get_or, Bor, arith}
 use Rattle.std.specs.BTreeMap.{is_at}
 use Rattle.std.specs.Cmp.Lexicographic.{slice_cmp}

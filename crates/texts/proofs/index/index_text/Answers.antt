@@ -32,7 +32,7 @@ loop-position-preserved c =
     (get_or_default c.args.dates.now i 0 (get_or c.args.dates.now i 0) (omega arith)) none
     ∙ c.loop-position.invariant
 
--- a place that is not before the shorter of two ends is behind one of them
+-- a place that is not before the smaller of two ends is not before one of them
 past : (a b i : ℕ) → min a b ≤ i → (a ≤ i) ⊎ (b ≤ i)
 past a b i h = elim (leb_tells a i) [
   | inl low ↦ inl low.1

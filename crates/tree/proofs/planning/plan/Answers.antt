@@ -9,7 +9,7 @@ use Rattle.tree.proofs.Plans.{whole_at_each, goes_on_at_each, found_at_each, pla
 use Rattle.tree.proofs.PoolFiles.{pool_agrees}
 use Rattle.tree.proofs.planning.plan.Goals as goal
 
--- the four kinds, one behind the other, are what is planned
+-- the steps of the four kinds, one kind after the other, are what is planned
 as_planned : (c : goal.After-in_order) → IfOk c.in_order.result (λ steps. steps.items ≡ planned (get_by_text c.args.there.now) (pool_files c.args.shelves.now) c.args.suites.now c.args.left.now)
 as_planned c =
     let there = get_by_text c.args.there.now in
