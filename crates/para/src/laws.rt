@@ -20,7 +20,8 @@ pub fn printed_again()
 {}
 
 /// A text gives the fields of one paragraph if and only if it is within the limit and spells that
-/// paragraph. It gives a fault if and only if that is its fault, and then it does not spell one paragraph.
+/// paragraph. It gives a fault if and only if that is its fault. If it is within the limit, it then
+/// does not spell one paragraph.
 pub fn one_paragraph()
     ensures ok { (text : List ℕ) (limit : ℕ) (p : Fields) → (fields_in text limit ≡ Ok p) ↔ ((length text ≤ limit) × Spells text (p ∷ [])) }
     ensures err { (text : List ℕ) (limit : ℕ) (e : ParaFault) → (fields_in text limit ≡ Err e) ↔ (one_fault text limit ≡ Some e) }
@@ -29,7 +30,8 @@ pub fn one_paragraph()
 {}
 
 /// A text gives one or more paragraphs if and only if it is within the limit and spells them. It
-/// gives a fault if and only if that is its fault, and then it spells no paragraphs.
+/// gives a fault if and only if that is its fault. If it is within the limit, it then spells no
+/// paragraphs.
 pub fn several_paragraphs()
     ensures ok { (text : List ℕ) (limit : ℕ) (ps : List Fields) → (paragraphs_in text limit ≡ Ok ps) ↔ ((length text ≤ limit) × (ps ≢ []) × Spells text ps) }
     ensures err { (text : List ℕ) (limit : ℕ) (e : ParaFault) → (paragraphs_in text limit ≡ Err e) ↔ (many_fault text limit ≡ Some e) }

@@ -54,7 +54,7 @@ pub fn plan(
     // In the end each file of the pool is there, and these suites show what they are to show.
     ensures placed { IfOk result (λ steps. PlacesAll (get_by_text there.now) (pool_files shelves.now) left.now steps.items) }
     ensures shown { IfOk result (λ steps. ShowsAll suites.now steps.items) }
-    // In the end what was left before is gone. What was neither left before nor is of the pool is never touched.
+    // In the end what was left before and is not a file of the pool is gone. What was neither left before nor is of the pool is never touched.
     ensures gone { IfOk result (λ steps. RemovesLeft (pool_files shelves.now) left.now steps.items) }
     ensures rest { IfOk result (λ steps. TouchesNoOther (pool_files shelves.now) left.now steps.items) }
     // What is there is not written again.
