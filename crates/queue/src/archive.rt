@@ -1,12 +1,12 @@
 //! The archive over a keeper.
 //!
-//! The keeper of an `Archive` is a public field. By it a program reads what the keeper says of itself, as its configuration, and the
-//! clauses name it. What is done to a keeper past its archive is no call of a history.
+//! The keeper of an `Archive` is a public field. Through it a program reads what the keeper knows, such as its configuration, and the
+//! clauses name it. A change that is made to a keeper without its archive is no call of a history.
 //!
-//! A delivery is stored by several commits. So after a crash in it there may be what would have been left before, the book before, or the
-//! book with the delivery (`LeavesDelivery`). The book before takes nothing from the promise, since an open keeper leaves its book alone
-//! (`settled`). A run, a cleaning, a copy, a promotion and a removal are one commit each, and have two cases (`LeavesStep`). The laws on
-//! stops are said of what follows from either (`LeavesCall`).
+//! A delivery is stored by several commits. So a crash during a delivery may leave what would have been left before it, the book before,
+//! or the book with the delivery (`LeavesDelivery`). The book before does not weaken the promise, since an open keeper
+//! leaves its book alone (`settled`). A run, a cleaning, a copy, a promotion and a removal are one commit each, so `LeavesStep` has two
+//! cases for them. The laws on stops are stated of what follows from either (`LeavesCall`).
 
 ghost use Rattle.std.specs.Prelude.{◌≡◌, ◌⊎◌, ◌<◌, ◌≤◌, ⊤, true, Some, None, Err, IfOk, IfErr, OnOk, OnErr, false, map};
 ghost use Rattle.history.specs.Amending.{IsPlanned, OnceAmended};
@@ -42,7 +42,7 @@ use suites::Shelves;
 #[derive(Drop)]
 pub struct Archive<K: Keeper> {
     pub keeper: K,
-    /// The index texts that were printed last, from which the prints of the next ones go on.
+    /// The index texts that were printed last. The prints of the next ones go on from them.
     printed: Vec<PrintedText>,
 }
 
@@ -65,9 +65,9 @@ impl<K: Keeper> Archive<K> {
         keeper
     }
 
-    /// Takes a delivery of a body under a file name at a moment, in seconds since 1970-01-01 00:00:00 UTC, and says whether it
-    /// is new: whether no arrival of that name and body counts at the moment. It is refused, the lowest first, for a bad name, a
-    /// body of more than 4194304 bytes, a name that ends in `.changes` with a body that is no .changes, and a moment after 2099.
+    /// Takes a delivery of a body under a file name at a moment, in seconds since 1970-01-01 00:00:00 UTC, and says whether it is new:
+    /// whether no arrival of that name and body counts at the moment. It is refused, with the lowest fault that applies, for a bad name,
+    /// a body of more than 4194304 bytes, a name that ends in `.changes` with a body that is no .changes, and a moment after 2099.
     pub fn deliver(
         &mut self,
         alloc: Global,
@@ -76,7 +76,7 @@ impl<K: Keeper> Archive<K> {
         moment: u64,
     ) -> Result<Arrived, Fault>
         ensures lasts { Lasts K.Keeper self.old.keeper self.new.keeper }
-        // Behind a success the keeper is open.
+        // After a success the keeper is open.
         ensures served { IsServed K.Keeper self.new.keeper (stored result) }
         ensures step { Does K.Keeper self.old.keeper (Delivery name.now body.now moment) (stored result) self.new.keeper }
         // A refusal leaves the book as it was, whatever the history.
@@ -84,7 +84,7 @@ impl<K: Keeper> Archive<K> {
         // A crash leaves what it would have left before, what the history left, or all that the call does.
         ensures crash { LeavesDelivery K.Keeper self.old.keeper name.now body.now moment self.new.keeper }
         ensures done { IfOk result (λ _. delivery_fault name.now body.now moment ≡ None) }
-        // The fault by name, body and moment, or else one of the keeper's own.
+        // The fault is the one by name, body and moment, or else one of the keeper's own.
         ensures refused { IfErr result (λ e. (delivery_fault name.now body.now moment ≡ Some e) ⊎ IsKeepers K.may_fail (delivery_fault name.now body.now moment ≡ None) e) }
     {
         check_delivery(alloc, name, body, moment)?;
@@ -95,7 +95,7 @@ impl<K: Keeper> Archive<K> {
         }
     }
 
-    /// Makes steps, which leave these shelves, in one change at a moment, with the index texts that they make other than before.
+    /// Makes steps, which leave these shelves, in one change at a moment. The index texts that the steps change are part of it.
     fn amend(
         &mut self,
         alloc: Global,
@@ -131,12 +131,11 @@ impl<K: Keeper> Archive<K> {
         Ok(())
     }
 
-    /// Judges each upload that has no verdict and is complete in what counts at a moment, in seconds since 1970-01-01 00:00:00
-    /// UTC, and reports a line for each. Refused for a moment after 2099. Where it is refused and the keeper is open no upload
-    /// was judged.
+    /// Judges each upload that has no verdict and is complete by what counts at a moment, in seconds since 1970-01-01 00:00:00 UTC, and
+    /// reports a line for each. It is refused for a moment after 2099. If it is refused and the keeper is open, no upload was judged.
     pub fn run(&mut self, alloc: Global, moment: u64) -> Result<Report, Fault>
         ensures lasts { Lasts K.Keeper self.old.keeper self.new.keeper }
-        // Behind a success the keeper is open.
+        // After a success the keeper is open.
         ensures served { IsServed K.Keeper self.new.keeper (reported result) }
         ensures step { Does K.Keeper self.old.keeper (QueueRun moment) (reported result) self.new.keeper }
         // A refusal leaves the book as it was, whatever the history.
@@ -162,9 +161,9 @@ impl<K: Keeper> Archive<K> {
         Ok(Report { lines })
     }
 
-    /// Copies the items of a source package that the suite `from` shows and the suite `to` keeps, at a moment, in seconds
-    /// since 1970-01-01 00:00:00 UTC, and says how many items of `to` are new. Suites go by their codenames. It is refused,
-    /// the lowest first, for a moment after 2099, a codename that no suite has, a copy from a suite to itself, and a source
+    /// Copies the items of a source package that the suite `from` shows and the suite `to` keeps, at a moment, in seconds since
+    /// 1970-01-01 00:00:00 UTC, and says how many items of `to` are new. Suites are named by their codenames. It is refused, with the
+    /// lowest fault that applies, for a moment after 2099, a codename that no suite has, a copy from a suite to itself, and a source
     /// package of which `from` shows nothing.
     pub fn copy(
         &mut self,
@@ -175,7 +174,7 @@ impl<K: Keeper> Archive<K> {
         moment: u64,
     ) -> Result<u64, Fault>
         ensures lasts { Lasts K.Keeper self.old.keeper self.new.keeper }
-        // Behind a success the keeper is open.
+        // After a success the keeper is open.
         ensures served { IsServed K.Keeper self.new.keeper (counted result) }
         ensures step { Does K.Keeper self.old.keeper (Copying from.now to.now source.now moment) (counted result) self.new.keeper }
         // A refusal leaves the book as it was, whatever the history.
@@ -184,7 +183,7 @@ impl<K: Keeper> Archive<K> {
         ensures crash { LeavesStep K.Keeper self.old.keeper (Copying from.now to.now source.now moment) self.new.keeper }
         ensures done { K.is_clean self.new.keeper → IfOk result (λ _. copy_fault (K.book self.old.keeper) from.now to.now source.now moment ≡ None) }
         ensures late { latest < moment → result ≡ Err Fault.Moment }
-        // The fault by the moment, the configuration and what is shown, or else one of the keeper's own.
+        // The fault is the one by the moment, the configuration and what is shown, or else one of the keeper's own.
         ensures refused { K.is_clean self.new.keeper → IfErr result (λ e. (copy_fault (K.book self.old.keeper) from.now to.now source.now moment ≡ Some e)
             ⊎ IsKeepers K.may_fail (is_free_copy (K.book self.old.keeper).config from.now to.now moment ≡ true) e) }
     {
@@ -200,11 +199,11 @@ impl<K: Keeper> Archive<K> {
         Ok(items)
     }
 
-    /// Copies in one change what several source packages have: for each of them what `copy` does, one after the other, at a
-    /// moment, in seconds since 1970-01-01 00:00:00 UTC. They are the given ones, or else all of which the suite `from` shows an
-    /// item, each once, in the order of the bytes of their names. It says for each how many items of `to` are new, or none where
-    /// `from` shows nothing of it; the others are copied all the same. It is refused, the lowest first, for a moment after 2099, a
-    /// codename that no suite has, and a copy from a suite to itself.
+    /// Copies several source packages in one change: for each of them it does what `copy` does, one after the other, at a moment, in
+    /// seconds since 1970-01-01 00:00:00 UTC. They are the given ones, or else all of which the suite `from` shows an item, each once, in
+    /// the order of the bytes of their names. It says for each how many items of `to` are new, or `None` if `from` shows nothing of it;
+    /// the others are copied all the same. It is refused, with the lowest fault that applies, for a moment after 2099, a codename that no
+    /// suite has, and a copy from a suite to itself.
     pub fn promote(
         &mut self,
         alloc: Global,
@@ -214,7 +213,7 @@ impl<K: Keeper> Archive<K> {
         moment: u64,
     ) -> Result<Promotion, Fault>
         ensures lasts { Lasts K.Keeper self.old.keeper self.new.keeper }
-        // Behind a success the keeper is open.
+        // After a success the keeper is open.
         ensures served { IsServed K.Keeper self.new.keeper (promoted result) }
         ensures step { Does K.Keeper self.old.keeper (Promoting from.now to.now (names_given sources.now) moment) (promoted result) self.new.keeper }
         // A refusal leaves the book as it was, whatever the history.
@@ -224,7 +223,7 @@ impl<K: Keeper> Archive<K> {
         ensures lines { IfOk result (λ promotion. lines_of promotion.report ≡ map copy_line (copies_of promotion)) }
         ensures done { IfOk result (λ _. promotion_fault (K.book self.old.keeper).config from.now to.now moment ≡ None) }
         ensures late { latest < moment → result ≡ Err Fault.Moment }
-        // The fault by the moment and the configuration, or else one of the keeper's own.
+        // The fault is the one by the moment and the configuration, or else one of the keeper's own.
         ensures refused { IfErr result (IsPromotionFault K.may_fail (K.book self.old.keeper).config from.now to.now moment) }
     {
         if moment > LATEST {
@@ -251,10 +250,9 @@ impl<K: Keeper> Archive<K> {
         })
     }
 
-    /// Removes from a suite, by its codename, all items of a package's name, sources and packages alike, at a moment, in
-    /// seconds since 1970-01-01 00:00:00 UTC, and says how many the suite showed. No older version comes back. It is
-    /// refused, the lowest first, for a moment after 2099, a codename that no suite has, and a name of which the suite shows
-    /// nothing.
+    /// Removes from a suite, by its codename, all items of a package's name, both sources and packages, at a moment, in seconds since
+    /// 1970-01-01 00:00:00 UTC, and says how many the suite showed. No older version comes back. It is refused, with the lowest fault
+    /// that applies, for a moment after 2099, a codename that no suite has, and a name of which the suite shows nothing.
     pub fn remove(
         &mut self,
         alloc: Global,
@@ -263,7 +261,7 @@ impl<K: Keeper> Archive<K> {
         moment: u64,
     ) -> Result<u64, Fault>
         ensures lasts { Lasts K.Keeper self.old.keeper self.new.keeper }
-        // Behind a success the keeper is open.
+        // After a success the keeper is open.
         ensures served { IsServed K.Keeper self.new.keeper (counted result) }
         ensures step { Does K.Keeper self.old.keeper (Removing suite.now name.now moment) (counted result) self.new.keeper }
         // A refusal leaves the book as it was, whatever the history.
@@ -272,7 +270,7 @@ impl<K: Keeper> Archive<K> {
         ensures crash { LeavesStep K.Keeper self.old.keeper (Removing suite.now name.now moment) self.new.keeper }
         ensures done { K.is_clean self.new.keeper → IfOk result (λ _. removal_fault (K.book self.old.keeper) suite.now name.now moment ≡ None) }
         ensures late { latest < moment → result ≡ Err Fault.Moment }
-        // The fault by the moment, the configuration and what is shown, or else one of the keeper's own.
+        // The fault is the one by the moment, the configuration and what is shown, or else one of the keeper's own.
         ensures refused { K.is_clean self.new.keeper → IfErr result (λ e. (removal_fault (K.book self.old.keeper) suite.now name.now moment ≡ Some e)
             ⊎ IsKeepers K.may_fail (is_free_removal (K.book self.old.keeper).config suite.now moment ≡ true) e) }
     {
@@ -288,18 +286,18 @@ impl<K: Keeper> Archive<K> {
         Ok(count)
     }
 
-    /// Gives the archive another configuration from a moment on, in seconds since 1970-01-01 00:00:00 UTC. What has arrived, was
-    /// judged and is shown stays; a suite goes by its codename. The indices are those of the new configuration, and the moment is the
-    /// date of each suite that is new, or whose Release would be another text also with the date that it has. Refused as
-    /// `KeepFault::Configuration` where something that is shown would not be kept: its suite is not there, or does not keep its
-    /// architecture or its component.
+    /// Gives the archive another configuration from a moment on, in seconds since 1970-01-01 00:00:00 UTC. What has arrived, was judged
+    /// and is shown stays; suites are named by their codenames. The indices are those of the new configuration. The moment is the date of
+    /// each suite that is new, and of each suite whose Release would be another text even with the date that it has. It is refused with
+    /// `KeepFault::Configuration` if something that is shown would not be kept: its suite is missing, or does not keep its architecture
+    /// or its component.
     pub fn configure(&mut self, alloc: Global, config: Config, moment: u64) -> Result<(), KeepFault>
         requires in_time { moment ≤ latest }
         ensures endures { Endures K.Keeper self.old.keeper self.new.keeper }
-        // Behind a success the keeper is open.
+        // After a success the keeper is open.
         ensures served { K.is_clean self.new.keeper → OnOk result (K.is_open self.new.keeper) }
         ensures step { Configures K.Keeper self.old.keeper config moment result self.new.keeper }
-        // The book, whatever the history.
+        // The book is the configured one, whatever the history.
         ensures book { K.is_clean self.new.keeper → OnOk result (K.book self.new.keeper ≡ configured config moment (K.book self.old.keeper)) }
         ensures kept { K.is_clean self.new.keeper → OnOk result (keeps_shown config (K.book self.old.keeper) ≡ true) }
         ensures err { OnErr result (IsUndone K.Keeper self.old.keeper self.new.keeper) }
@@ -330,8 +328,8 @@ impl<K: Keeper> Archive<K> {
         }
     }
 
-    /// The uploads without a verdict whose .changes counts at a moment, in seconds since 1970-01-01 00:00:00 UTC, a line for
-    /// each: the number of listed files that do not count, and the name of the .changes. Refused for a moment after 2099.
+    /// The uploads without a verdict whose .changes counts at a moment, in seconds since 1970-01-01 00:00:00 UTC. Each has a line: the
+    /// number of listed files that do not count, and the name of the .changes. It is refused for a moment after 2099.
     pub fn waiting(&mut self, alloc: Global, moment: u64) -> Result<Report, Fault>
         // The book stays as it was, and a crash leaves what it would have left before.
         ensures reads { Reads K.Keeper self.old.keeper self.new.keeper }
@@ -349,11 +347,11 @@ impl<K: Keeper> Archive<K> {
         })
     }
 
-    /// Takes away each arrival that does not count any more at a moment, in seconds since 1970-01-01 00:00:00 UTC, and says how
-    /// many there were. What was judged stays judged, and all that the suites show stays. Refused for a moment after 2099.
+    /// Takes away each arrival that no longer counts at a moment, in seconds since 1970-01-01 00:00:00 UTC, and says how many there were.
+    /// What was judged stays judged, and all that the suites show stays. It is refused for a moment after 2099.
     pub fn clean(&mut self, alloc: Global, moment: u64) -> Result<u64, Fault>
         ensures lasts { Lasts K.Keeper self.old.keeper self.new.keeper }
-        // Behind a success the keeper is open.
+        // After a success the keeper is open.
         ensures served { IsServed K.Keeper self.new.keeper (counted result) }
         ensures step { Does K.Keeper self.old.keeper (Cleaning moment) (counted result) self.new.keeper }
         // A refusal leaves the book as it was, whatever the history.

@@ -9,7 +9,7 @@ use records::Changes;
 use std::alloc::Global;
 use sums::{MOST_SIZE, is_changes_name, is_file_name};
 
-/// Refuses the body of a .changes that is none.
+/// Refuses the body of a .changes that can not be read as one.
 #[tactic(auto, unfolding(history::specs::Deliveries::record_fault))]
 fn check_record(alloc: Global, name: &str, body: &[u8]) -> Result<(), Fault>
     ensures { MatchResult result (λ _. record_fault name.now body.now ≡ None)

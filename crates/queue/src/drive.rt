@@ -1,9 +1,9 @@
 //! Lists of commands.
 //!
-//! `drive` answers an `Err` only before it has made a command, and the archive is then the same.
+//! `drive` answers an `Err` only before it has made a command. The archive is then unchanged.
 //!
-//! It makes all commands that it is handed, also after one that memory or the disk failed. So a caller who needs their order hands over
-//! deliveries alone, of which none needs another and each may be given again.
+//! It makes all commands that it is handed, also those after one that failed for want of memory or because of the disk. So a caller who
+//! needs their order hands over only deliveries that do not need each other and may be repeated.
 
 ghost use Rattle.std.specs.Prelude.{◌≡◌, IfOk, OnErr, map};
 ghost use Rattle.history.specs.Answers.{IsFaithful, IsKept, IsRun};
@@ -60,14 +60,14 @@ impl<K: Keeper> Archive<K> {
     pub fn drive(&mut self, alloc: Global, commands: &[Command]) -> Result<Vec<Outcome>, AllocError>
         ensures lasts { Lasts K.Keeper self.old.keeper self.new.keeper }
         ensures kinds { IfOk result (AreOfKinds commands.now) }
-        // Where the last is done the keeper is open.
+        // If the last command is done, the keeper is open.
         ensures served { IfOk result (IsOpenBehind K.Keeper self.new.keeper) }
-        // Where the keeper keeps what a history leaves, the outcomes are the answers of the plain archive, and it then
-        // keeps what the longer history leaves.
+        // If the keeper keeps what a history leaves, the outcomes are the answers of the plain archive, and the keeper then keeps what
+        // the longer history leaves.
         ensures once { IfOk result (λ outcomes. (h : History) → IsKept (K.is_open self.old.keeper) (K.book self.old.keeper) h → IsFaithful h (map call_of commands.now)
             → K.is_clean self.new.keeper → IsRun K.may_fail h (map call_of commands.now) (map outcome_of outcomes.items) (K.is_open self.new.keeper) (K.book self.new.keeper)) }
-        // A crash during the list or behind it leaves what it would have left before, or what the history leaves with the first of
-        // the commands behind it, none, some or all; or that with the whole command that follows them besides.
+        // A crash during or after the list leaves what it would have left before, or what the history leaves after none, some or all of
+        // the commands, or also after the whole of the next command.
         ensures crash { IfOk result (λ outcomes. LeavesRun K.Keeper self.old.keeper (map call_of commands.now) (map outcome_of outcomes.items) self.new.keeper) }
         ensures err { OnErr result (self.new ≡ self.old) }
     {

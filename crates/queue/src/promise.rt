@@ -13,8 +13,8 @@ use keep::{LATEST, PlainKeeper};
 use rules::Config;
 use std::alloc::{AllocError, Global};
 
-/// Makes an archive in memory, of this configuration, at a moment in seconds since 1970-01-01 00:00:00 UTC, and then commands
-/// in order. It gives the outcome of each and the archive, or an `Err` where memory is wanting for the archive or for the
+/// Makes an archive in memory, of this configuration, at a moment in seconds since 1970-01-01 00:00:00 UTC, and then makes
+/// commands in order. It gives the outcome of each and the archive, or an `Err` if there is no memory for the archive or for the
 /// outcomes.
 pub fn drive_anew(
     alloc: Global,
@@ -24,8 +24,8 @@ pub fn drive_anew(
 ) -> Result<(Vec<Outcome>, Archive<PlainKeeper>), AllocError>
     requires in_time { moment ≤ LATEST }
     ensures kinds { IfOk result (λ r. AreOfKinds commands.now r.0) }
-    // Where no two of the delivered bodies have one print, each outcome is the answer of the plain archive at its place, or want
-    // of memory, and the book that is then kept is the one that these calls leave.
+    // If no two of the delivered bodies have one print, each outcome is the answer of the plain archive at its place, or want of
+    // memory. The book that is then kept is the one that these calls leave.
     ensures once { IfOk result (λ r. NoCollision (bodies_of (map call_of commands.now))
         → IsRun false (opened_with (fresh_book config moment)) (map call_of commands.now) (map outcome_of r.0.items) ⊤ (plain_book r.1.keeper)) }
 {

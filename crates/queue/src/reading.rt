@@ -1,4 +1,4 @@
-//! Reads that say how far they came, also where they fail.
+//! Reads that say how many bytes came, even if they fail.
 
 ghost use Rattle.std.specs.Prelude.{◌≡◌, ◌<◌, ◌≤◌, ℕ, List, false, length, take, IfOk, IfErr, OnOk, OnErr};
 ghost use Rattle.std.specs.Io.{ReadsAtMost};
@@ -13,7 +13,7 @@ use std::io::{ErrorKind, Read};
 #[derive(Clone, Copy, Debug, PartialEq, Eq)]
 pub struct ReaderFailed;
 
-/// One read, made again where a signal interrupts it.
+/// Makes one read, and makes it again if a signal interrupts it.
 pub fn read_some<R: Read>(reader: &mut R, buf: &mut [u8]) -> Result<usize, ReaderFailed>
     ensures bound { ReadsAtMost result buf.new }
     ensures ok { IfOk result (λ n. Consumes (R.remaining reader.old) (R.remaining reader.new) (take n buf.new)) }
@@ -33,7 +33,7 @@ pub fn read_some<R: Read>(reader: &mut R, buf: &mut [u8]) -> Result<usize, Reade
     Err(ReaderFailed)
 }
 
-/// Fills the buffer as far as the input goes, and says how far.
+/// Fills the buffer as far as the input goes, and says how many bytes came.
 pub fn fill<R: Read>(reader: &mut R, buf: &mut [u8]) -> Result<usize, ReaderFailed>
     ensures within { IfOk result (λ n. n ≤ length buf.new) }
     ensures same { length buf.new ≡ length buf.old }
@@ -52,7 +52,7 @@ pub fn fill<R: Read>(reader: &mut R, buf: &mut [u8]) -> Result<usize, ReaderFail
     Ok(at)
 }
 
-/// Reads on into a buffer of its length, and throws that away.
+/// Reads as many bytes as the buffer has, and throws them away.
 fn skip_some<R: Read>(reader: &mut R, buffer: &mut [u8]) -> Result<(), Fault>
     ensures same { length buffer.new ≡ length buffer.old }
     ensures ok { OnOk result (Consumes (R.remaining reader.old) (R.remaining reader.new) buffer.new) }
@@ -69,7 +69,7 @@ fn skip_some<R: Read>(reader: &mut R, buffer: &mut [u8]) -> Result<(), Fault>
     }
 }
 
-/// Reads so many bytes on, and throws them away.
+/// Reads `whole` bytes, and throws them away.
 pub fn skip<R: Read>(reader: &mut R, whole: usize) -> Result<(), Fault>
     ensures ok { OnOk result ((body : List ℕ) × Gave (R.remaining reader.old) (R.remaining reader.new) whole body) }
     ensures refused { IfErr result (WasShort (R.remaining reader.old) (R.remaining reader.new) whole) }

@@ -2,8 +2,8 @@
 //!
 //! A .changes is read whole, and as a record, before its first piece is stored. It has at most 1,048,576 bytes.
 //!
-//! A `receive` that held each body whole before it stored its pieces would meet its contract, since no clause speaks of memory. The test
-//! `pieces_are_stored_as_they_come` refuses it.
+//! No clause speaks of memory, so a `receive` that held a whole body before it stored the pieces would meet its contract. The test
+//! `pieces_are_stored_as_they_come` refuses such a `receive`.
 
 ghost use Rattle.std.specs.Prelude.{◌≡◌, ◌<◌, ◌≤◌, ℕ, List, Some, true, length, IsErrAnd, OnErr};
 ghost use Rattle.std.specs.Io.KnownBytes.{Keeps};
@@ -25,7 +25,7 @@ use std::alloc::Global;
 use std::io::Read;
 use sums::{MOST_SIZE, is_changes_name, is_file_name};
 
-/// What is answered to a delivery that is new, or that was there.
+/// The answer to a delivery: it is new, or it was there.
 fn arrived(fresh: bool) -> Arrived
     ensures { is_new result ≡ fresh }
 {
@@ -33,11 +33,11 @@ fn arrived(fresh: bool) -> Arrived
 }
 
 impl<K: Keeper> Archive<K> {
-    /// Takes a delivery whose body of `size` bytes a reader gives, at a moment, in seconds since 1970-01-01 00:00:00 UTC,
-    /// and says whether it is new, as `deliver` does. The body is read and stored in pieces of at most 65536 bytes; that of
-    /// a .changes is read whole and as a record before it is stored. A body that is refused is read to its end, but for
-    /// one of more than 4194304 bytes, of which nothing is read, and for a fault of memory or of the keeper, which ends the
-    /// reading. An input that ends early and a reader that fails are told before any other refusal of what is read.
+    /// Takes a delivery whose body of `size` bytes a reader gives, at a moment, in seconds since 1970-01-01 00:00:00 UTC, and says
+    /// whether it is new, as `deliver` does. The body is read and stored in pieces of at most 65536 bytes; that of a .changes is read
+    /// whole and as a record before it is stored. A body that is refused is read to its end, with two exceptions: of a body of more than
+    /// 4194304 bytes nothing is read, and a fault of memory or of the keeper ends the reading. An input that ends early and a reader
+    /// that fails are reported before any other refusal that depends on what is read.
     pub fn receive<R: Read>(
         &mut self,
         alloc: Global,
@@ -47,11 +47,11 @@ impl<K: Keeper> Archive<K> {
         moment: u64,
     ) -> Result<Arrived, Fault>
         ensures lasts { Lasts K.Keeper self.old.keeper self.new.keeper }
-        // Behind a success the keeper is open.
+        // After a success the keeper is open.
         ensures served { IsServed K.Keeper self.new.keeper (stored result) }
-        // What the reader gave, and what came of it.
+        // What the reader gave, and what became of it.
         ensures received { IsReceived K.Keeper (R.remaining reader.old) (R.remaining reader.new) name.now size moment self.old.keeper self.new.keeper result }
-        // Of a body of more than 4194304 bytes nothing is read, and the answer is the fault of the delivery itself.
+        // A body of more than 4194304 bytes is not read, and the answer is the fault of the delivery itself.
         ensures large { most_size < size → Keeps (R.remaining reader.old) (R.remaining reader.new)
             × IsErrAnd result (λ e. (body : List ℕ) → length body ≡ size → delivery_fault name.now body moment ≡ Some e) }
         // A refusal leaves the book as it was, whatever the history.

@@ -45,7 +45,7 @@ pub fn judged_steps(
     ensures steps { IfOk result (λ steps. AreJudged config.now shelves.old uploads.now steps.items) }
     ensures shelves { OnOk result (shelves.new ≡ after_uploads config.now shelves.old uploads.now) }
     ensures sound { AreSound shelves.old }
-    // What records tell of all that is shown stays so.
+    // If records describe all that is shown, they still do so afterwards.
     ensures told { OnOk result (AreTold config.now.suites shelves.old → AreTold config.now.suites (after_uploads config.now shelves.old uploads.now)) }
 {
     // For the prover alone: the shelves are sound.

@@ -13,7 +13,8 @@ use keep::{Keeper, PIECE_SIZE};
 use std::alloc::Global;
 use std::io::Read;
 
-/// Reads the next piece into a buffer of its length, and stores it. Where it does not come none is coming then.
+/// Reads the next piece into a buffer of its length, and stores it. If the piece does not come, the keeper gives the body
+/// up.
 pub fn store_piece<K: Keeper, R: Read>(
     alloc: Global,
     keeper: &mut K,
@@ -116,8 +117,8 @@ fn store_in_pieces<K: Keeper, R: Read>(
     Ok(keeper.finish(alloc, name, moment)?)
 }
 
-/// Reads a body of this size and stores it under a file name: at once where it has one piece, or else each piece before the
-/// next is read.
+/// Reads a body of this size and stores it under a file name. A body of one piece is stored at once; of a longer one each
+/// piece is stored before the next is read.
 pub fn store<K: Keeper, R: Read>(
     alloc: Global,
     keeper: &mut K,

@@ -5,7 +5,7 @@ use Rattle.sums.specs.Prints.{Holds}
 use Rattle.sums.specs.declared.print.Printer.{Printer}
 use Rattle.renewing.specs.declared.printed.Part.{Part}
 
--- the bytes of the parts, one part behind the other
+-- the bytes of the parts, one part after the other
 abbrev pub joined : List Part → List ℕ
 joined parts = flat_map (λ p. p.bytes) parts
 

@@ -36,9 +36,9 @@ changes_index suite place plan = list_any (is_listed suite place) plan.put || li
 abbrev pub some_changes_index : ℕ → Place → List Step → Bool
 some_changes_index suite place steps = list_any (λ step. changes_index suite place step.plan) steps
 
--- ---- the texts that are then other than before, which are these by their paths
+-- ---- the texts that then differ, which are these by their paths
 
--- the print of the text that is there, of none that of no bytes
+-- the print of the text that is there; if there is none, the print of no bytes
 unfoldable pub print_kept : Option (List ℕ) → Print
 print_kept kept = print (unwrap_or kept [])
 
@@ -46,11 +46,11 @@ print_kept kept = print (unwrap_or kept [])
 abbrev pub text_to_keep : List ℕ → List ℕ → IndexText
 text_to_keep path text = record { path = path; text = text; print = print text; printed = refl }
 
--- a text where another is there
+-- the text, if another is at its path
 unfoldable pub renewed_at : Option (List ℕ) → List ℕ → List ℕ → List IndexText
 renewed_at kept path text = if is_kept kept text then [] else text_to_keep path text ∷ []
 
--- the suite at a position, as it is told apart in paths
+-- the suite at a position, as its paths name it
 abbrev pub folder_of : ℕ → Suite → Folder
 folder_of suite s = record { suite = suite; codename = s.codename; places = places_in s.components s.architectures }
 
@@ -63,7 +63,7 @@ abbrev pub index_with : List ℕ → Print → Index
 index_with path own = record { path = path; print = own }
 
 module _ (old : List ℕ → Option (List ℕ)) (shelves : ShelvesValue) (steps : List Step) (folder : Folder) where
-  -- the text of an index: rendered where a step changes it, else as it was
+  -- the text of an index: rendered if a step changes it, else as it was
   unfoldable pub text_after : Place → List ℕ
   text_after place =
       if some_changes_index folder.suite place steps then place_text shelves folder.suite place
@@ -72,14 +72,15 @@ module _ (old : List ℕ → Option (List ℕ)) (shelves : ShelvesValue) (steps 
   abbrev pub index_after : Place → Index
   index_after place = index_of (place_path place, text_after place)
 
-  -- the text of an index that a step changes, where it is another
+  -- the text of an index that a step changes, if it differs
   unfoldable pub renewed_index : Place → List IndexText
   renewed_index place =
       if some_changes_index folder.suite place steps
       then renewed_at (old (path_in folder (place_path place))) (path_in folder (place_path place)) (place_text shelves folder.suite place)
       else []
 
-  -- the texts of a suite that has a Release: those indices, and Release itself where it is another
+  -- the texts of a suite that has a Release: those of its indices that a step changes, and Release itself if
+  -- it differs
   unfoldable pub renewed_folder : (List Index → List ℕ) → List IndexText
   renewed_folder release =
       if is_some (old (path_in folder (codes "Release")))
@@ -87,11 +88,11 @@ module _ (old : List ℕ → Option (List ℕ)) (shelves : ShelvesValue) (steps 
       ++ renewed_at (old (path_in folder (codes "Release"))) (path_in folder (codes "Release")) (release (map index_after folder.places))
       else []
 
--- those of the suite at a position
+-- the texts of the suite at a position that the steps make different
 abbrev pub renewed_suite : (List ℕ → Option (List ℕ)) → ShelvesValue → List Step → ℕ → ℕ → Suite → List IndexText
 renewed_suite old shelves steps moment suite s = renewed_folder old shelves steps (folder_of suite s) (release_text s moment)
 
--- those of suites that a step touches, of which the first is at this position
+-- the texts of suites that a step touches; the first suite of the list is at this position
 unfoldable pub renewed_from : (List ℕ → Option (List ℕ)) → ShelvesValue → List Step → ℕ → ℕ → List Suite → List IndexText
 renewed_from old shelves steps moment suite [] = []
 renewed_from old shelves steps moment suite (s ∷ rest) =

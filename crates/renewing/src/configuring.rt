@@ -1,10 +1,10 @@
 //! Another configuration: what is handed to a keeper with it.
 //!
-//! Another configuration is no command of a history: one history ends there, and another opens with the book under the new configuration
-//! (`reopened`). What a book does not have is forgotten there: items that a greater version had replaced, and the calls before. No answer
+//! Another configuration is no command of a history. One history ends there, and another opens with the book under the new configuration
+//! (`reopened`). What a book does not have is then forgotten: items that a greater version had replaced, and the calls before. No answer
 //! shows them.
 //!
-//! `Archive::configure` answers K5, and no call of a keeper does.
+//! `Archive::configure` can answer K5. No call of a keeper does.
 
 ghost use Rattle.std.specs.Prelude.{◌≡◌, ◌⊎◌, ◌≤◌, ◌<◌, All, IfOk, IfErr, IfSome, OnOk, Some, length, false, string_bytes, slice_get};
 ghost use Rattle.std.specs.Option.{option_and_then};
@@ -57,7 +57,7 @@ fn path_of(alloc: Global, suite: &Suite, path: &str) -> Result<String, AllocErro
     path_in(alloc, suite.codename.as_str(), path)
 }
 
-/// The Release of the suite at a position of a configuration, of a date.
+/// The Release, with this date, of the suite at a position of a configuration.
 fn release_of(
     alloc: Global,
     config: &Config,
@@ -75,8 +75,8 @@ fn release_of(
     Ok(text)
 }
 
-/// The date of the suite at a position of another configuration, under which the shelves show what the archive shows: the one that it
-/// has where its Release of that date is the one that is kept, else the moment.
+/// The date of the suite at a position of another configuration, under which the shelves show what the archive shows. It is the date that
+/// the suite has, if its Release with that date is the one that is kept. Otherwise it is the moment.
 #[tactic(auto, unfolding(keep::specs::Configured::date_under, keep::specs::Configured::date_of, texts::specs::Positions::release_at, texts::specs::Positions::indices_at))]
 fn date_under<K: Keeper>(
     alloc: Global,
@@ -109,7 +109,7 @@ fn date_under<K: Keeper>(
     }
 }
 
-/// The dates of all suites of another configuration, likewise.
+/// The dates of all suites of another configuration, as `date_under` gives them.
 fn dates_under<K: Keeper>(
     alloc: Global,
     keeper: &mut K,
@@ -133,8 +133,8 @@ fn dates_under<K: Keeper>(
 }
 
 /// What is handed to a keeper with another configuration, at a moment in seconds since 1970-01-01 00:00:00 UTC: what the suites show
-/// under it, each suite going by its codename, and their dates. `KeepFault::Configuration` where something that is shown would not be
-/// kept.
+/// under it, with each suite named by its codename, and their dates. It is refused with `KeepFault::Configuration` if something that is
+/// shown would not be kept.
 pub fn configured<K: Keeper>(
     alloc: Global,
     keeper: &mut K,
@@ -146,7 +146,7 @@ pub fn configured<K: Keeper>(
     ensures served { K.is_clean keeper.new → OnOk result (K.is_open keeper.new) }
     ensures config { IfOk result (λ next. next.config ≡ config) }
     ensures sound { K.is_clean keeper.new → IfOk result (λ next. IsConfiguration (K.book keeper.old) config next.shelves) }
-    // What is shown agrees on the contents at each path.
+    // All that is shown agrees on the contents at each path.
     ensures agreed { K.is_clean keeper.new → IfOk result (λ _. AreAgreed (files_of (values (K.book keeper.old).shown))) }
     ensures dates { K.is_clean keeper.new → IfOk result (λ next. next.dates.items ≡ dates_under config next.shelves moment (K.book keeper.old)) }
     ensures differs { K.is_clean keeper.new → IfErr result (λ e. e ≡ Configuration → keeps_shown config (K.book keeper.old) ≡ false) }

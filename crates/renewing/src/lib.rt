@@ -1,4 +1,4 @@
-//! The index texts that a change makes other than before, and what is handed to a keeper with another configuration.
+//! The index texts that a change makes different, and what is handed to a keeper with another configuration.
 #![tactic(auto)]
 
 mod configuring;

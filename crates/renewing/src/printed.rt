@@ -1,10 +1,10 @@
-//! The prints of texts that begin as those before them.
+//! The prints of texts that begin like the texts before them.
 //!
 //! Most of an index stays as it is, and its three digests take about half of the time of a run. So the archive keeps each index that it
 //! rendered in parts of 65,536 bytes, and with each part the states of the digests at its end (`PrintedText`). The next text at that path
-//! is compared with these parts, and is hashed from the first that differs (`print_next`). That a print is that of the whole text is its
-//! contract, whatever is kept: the states at a part are those of all bytes up to its end, by the type's invariant. These texts are held in
-//! memory, once each.
+//! is compared with these parts, and is hashed from the first that differs (`print_next`). Its contract says that a print is that of the
+//! whole text, whatever is kept: by the type's invariant the states at a part are those of all bytes up to its end. These texts are held
+//! in memory, once each.
 
 ghost use Rattle.std.specs.Prelude.{◌≡◌, ◌++◌, ◌<◌, [], IfOk, IfSome, OnOk, length, take};
 ghost use Rattle.renewing.specs.Printed.{ArePrinted, IsBehind, joined};
@@ -14,7 +14,7 @@ use para::{Listed, Text};
 use std::alloc::{AllocError, Global};
 use sums::{Print, Printer};
 
-/// How many bytes of a text are one part.
+/// The number of bytes of a part.
 const PART_SIZE: usize = 65_536;
 
 /// A part of a text, and a printer that has been given the text up to the end of this part.
@@ -24,7 +24,7 @@ pub struct Part {
     pub printer: Printer,
 }
 
-/// The whole parts of the text at a path whose print was made last. The print of one that begins alike goes on from there.
+/// The whole parts of the last text at a path whose print was made. The print of a text that begins alike goes on from there.
 #[derive(Drop)]
 pub struct PrintedText {
     path: Text,
@@ -32,7 +32,7 @@ pub struct PrintedText {
     ghost printed: { ∥ ArePrinted [] parts.items ∥₁ },
 }
 
-/// How many of these parts the text begins with, and what of it stands behind them.
+/// The number of these parts that the text begins with, and the rest of the text after them.
 fn parts_met<'t>(parts: &[Part], text: &'t [u8]) -> (usize, &'t [u8])
     ensures { joined (take result.0 parts.now) ++ result.1.now ≡ text.now }
 {
@@ -111,7 +111,7 @@ fn position_at(printed: &[PrintedText], path: &str) -> Option<usize>
     None
 }
 
-/// Takes out the parts of the text at a path: none where no text of it was printed.
+/// Takes out the parts of the text at a path. There are none if no text was printed at that path.
 fn take_parts(alloc: Global, printed: &mut Vec<PrintedText>, path: &str) -> Vec<Part>
     ensures { ∥ ArePrinted [] result.items ∥₁ }
 {
@@ -124,8 +124,7 @@ fn take_parts(alloc: Global, printed: &mut Vec<PrintedText>, path: &str) -> Vec<
     }
 }
 
-/// The print of the text at a path. Where the text before it at that path is known, only what follows the parts that both
-/// begin with is read anew.
+/// The print of the text at a path. If the text before it at that path is known, only what follows their common parts is read anew.
 pub(crate) fn print_next(
     alloc: Global,
     printed: &mut Vec<PrintedText>,

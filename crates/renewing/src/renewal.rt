@@ -1,7 +1,7 @@
-//! The index texts that a change makes other than before.
+//! The index texts that a change makes different.
 //!
-//! A run, a copy, a promotion and a removal render the indices that their plans change. Of the other indices of the same suites they ask
-//! for the prints alone, since Release has them.
+//! A run, a copy, a promotion and a removal render the indices that their plans change. For the other indices of these suites they ask
+//! only for the prints, which Release lists.
 
 ghost use Rattle.std.specs.Prelude.{◌≡◌, ◌≤◌, ◌<◌, ◌++◌, Bool, List, ℕ, IfOk, IfErr, OnOk, is_some, length, map, slice_get, Some, [], option_map, unwrap_or, string_bytes, if◌then◌else◌};
 ghost use Rattle.std.specs.List.{flat_map, list_any};
@@ -103,7 +103,7 @@ fn some_changes_index(steps: &[Step], suite: usize, place: &Place) -> bool
     false
 }
 
-/// The print of a text that is kept, of an absent one that of no bytes.
+/// The print of a text that is kept. If no text is kept it is the print of no bytes.
 fn print_or_none(kept: Option<Print>) -> Print
     ensures { result ≡ unwrap_or kept (print []) }
 {
@@ -113,7 +113,7 @@ fn print_or_none(kept: Option<Print>) -> Print
     }
 }
 
-/// Appends the text at its path where another is kept there.
+/// Appends the text at its path if another is kept there.
 #[tactic(auto, unfolding(crate::specs::Renewal::renewed_at))]
 fn push_renewed<K: Keeper>(
     alloc: Global,
@@ -132,7 +132,7 @@ fn push_renewed<K: Keeper>(
     Ok(())
 }
 
-/// The index at a path of a suite whose text stays the one that is kept, at this whole path.
+/// The index at a path of a suite, if its text stays the one that is kept at this whole path.
 fn index_kept<K: Keeper>(
     alloc: Global,
     keeper: &mut K,
@@ -151,8 +151,8 @@ fn index_kept<K: Keeper>(
     })
 }
 
-/// What index texts are renewed for: steps, the shelves that they leave, and the moment at which they are made, in seconds since
-/// 1970-01-01 00:00:00 UTC.
+/// What index texts are renewed for: steps, the shelves that the steps leave, and the moment of the steps, in seconds since 1970-01-01
+/// 00:00:00 UTC.
 #[derive(Clone, Copy)]
 struct Amendment<'a> {
     shelves: &'a Shelves,
@@ -160,8 +160,8 @@ struct Amendment<'a> {
     moment: u64,
 }
 
-/// The index of a suite's place after an amendment; its text is appended where it is other than the
-/// kept one. Where no step of it changes the index it is the kept one.
+/// The index of a suite's place after an amendment. If no step changes the index, it is the kept one. Its text is appended if it differs
+/// from the kept one.
 #[tactic(auto, unfolding(crate::specs::Renewal::text_after, crate::specs::Renewal::renewed_index))]
 fn renew_index<K: Keeper>(
     alloc: Global,
@@ -201,8 +201,7 @@ fn renew_index<K: Keeper>(
     })
 }
 
-/// The indices of a suite after an amendment; those of their texts that are other than the kept ones
-/// are appended.
+/// The indices of a suite after an amendment. The texts that differ from the kept ones are appended.
 fn renew_indices<K: Keeper>(
     alloc: Global,
     keeper: &mut K,
@@ -225,7 +224,7 @@ fn renew_indices<K: Keeper>(
     Ok(indices)
 }
 
-/// Whether a text is kept at a whole path. Its print tells it, so that the text is not read.
+/// Whether a text is kept at a whole path. It asks for the print, so that the text is not read.
 fn has_text<K: Keeper>(alloc: Global, keeper: &mut K, path: &str) -> Result<bool, KeepFault>
     ensures reads { Reads K.is_clean K.is_open K.faults K.book K.may_leave keeper.old keeper.new }
     ensures served { K.is_clean keeper.new → OnOk result (K.is_open keeper.new) }
@@ -236,8 +235,8 @@ fn has_text<K: Keeper>(alloc: Global, keeper: &mut K, path: &str) -> Result<bool
     Ok(found.is_some())
 }
 
-/// Appends the texts of a suite that an amendment makes other than the kept ones: those of its indices, and Release with its
-/// moment as its date. A suite without a Release has none.
+/// Appends the texts of a suite that an amendment makes different from the kept ones: those of its indices, and Release, whose date is
+/// the moment of the amendment. For a suite without a Release it appends nothing.
 #[tactic(auto, unfolding(crate::specs::Renewal::renewed_folder))]
 fn renew_folder<K: Keeper>(
     alloc: Global,
@@ -271,7 +270,7 @@ fn renew_folder<K: Keeper>(
     push_renewed(alloc, keeper, IndexText::new(path, text), texts)
 }
 
-/// The same of the suite at a position.
+/// Appends the texts of the suite at a position that an amendment makes different from the kept ones, as `renew_folder` does.
 fn renew_suite<K: Keeper>(
     alloc: Global,
     keeper: &mut K,
@@ -292,7 +291,7 @@ fn renew_suite<K: Keeper>(
     renew_folder(alloc, keeper, printed, amendment, &folder, texts)
 }
 
-/// The texts of the suites that a step of an amendment touches, where they are other than the kept ones.
+/// The texts of the suites that a step of an amendment touches, if they differ from the kept ones.
 fn renewed_suites<K: Keeper>(
     alloc: Global,
     keeper: &mut K,
@@ -314,10 +313,10 @@ fn renewed_suites<K: Keeper>(
     Ok(texts)
 }
 
-/// The index texts that steps make other than the kept ones, where the steps leave these shelves and are made at the
-/// moment, in seconds since 1970-01-01 00:00:00 UTC. Of a suite that a step touches the indices are rendered whose items
-/// a plan puts or drops, of the others the keeper tells the prints, and Release gets the moment as its date; of other suites
-/// nothing is read. The print of an index goes on from what was printed before it at its path.
+/// The index texts that steps make different from the kept ones, for steps that leave these shelves and are made at the moment, in
+/// seconds since 1970-01-01 00:00:00 UTC. In a suite that a step touches, the indices are rendered whose items a plan puts or drops, the
+/// keeper gives the prints of the others, and Release gets the moment as its date. Nothing is read of other suites. The print of an
+/// index goes on from what was printed before it at its path.
 pub fn renewed_texts<K: Keeper>(
     alloc: Global,
     keeper: &mut K,
@@ -334,7 +333,7 @@ pub fn renewed_texts<K: Keeper>(
         → AreRenewed (K.book keeper.old) (amended (K.book keeper.old) change) texts.items) }
     ensures cause { IfErr result (MayAnswer K.may_fail) }
 {
-    // A configuration that was read has no two indices at one path.
+    // No two indices of a configuration that was read are at one path.
     let _ = keeper.config().text();
     let amendment = Amendment {
         shelves,
