@@ -28,13 +28,13 @@ line_on v name = codes "refused " ++ decimal (number_of v) ++ codes " " ++ name
 unfoldable pub report_line : Judgement → List ℕ
 report_line j = line_on j.verdict j.name
 
--- the lines that a run behind this history adds
+-- the lines that a run after this history adds
 unfoldable pub new_lines : History → ℕ → List (List ℕ)
 new_lines h moment =
     let after = fold (acted h.opening.config) (archive h) (acts_of h.opening h.steps (QueueRun moment) (Ok (Lines []))) in
     map report_line (drop (length (archive h).judged) after.judged)
 
--- an upload that waits: the number of its entries of which no body counts, and its name
+-- the line on an upload that waits: the number of its entries of which no body counts, and its name
 abbrev pub line_on_waiting : Waiting → List ℕ
 line_on_waiting w = decimal w.missing ++ codes " " ++ w.name
 
@@ -47,7 +47,7 @@ found_at h path =
     let a = archive h in
     option_or (get (pool_in a) path) (index_text h.opening.config (shown_by_print a) a.dates path)
 
--- the fault where there is one, else whether the delivery is new
+-- the fault if there is one, else whether the delivery is new
 abbrev pub delivery_answer : Option Fault → Bool → Result Reply Fault
 delivery_answer None new = Ok (Stored new)
 delivery_answer (Some fault) new = Err fault
@@ -55,13 +55,14 @@ delivery_answer (Some fault) new = Err fault
 abbrev pub unless_late : ℕ → Result Reply Fault → Result Reply Fault
 unless_late moment answer = if nat_lt latest moment then Err Moment else answer
 
--- how many items of the suite the second shows that the first has not, by shelf and the text of the version
+-- the number of items of the suite that the second shows and the first does not, by shelf and the text of the version
 unfoldable pub count_of_new : ℕ → PlainArchive → PlainArchive → ℕ
 count_of_new suite old new = length (filter
     (λ e. nat_eq e.0.suite suite && not (option_map_or (λ x. bytes_eq x.version e.1.version) (get (shown_in old) e.0) false))
     (entries (shown_in new)))
 
--- of suites that are there: they differ, the first shows an item of the source, or else how many items of the second are new
+-- the answer to a copy between two suites that are there: a fault if they are one suite or the first shows no item of the source,
+-- else how many items of the second are new
 abbrev pub copy_between : ConfigValue → PlainArchive → ℕ → ℕ → List ℕ → ℕ → Result Reply Fault
 copy_between config a from to source moment =
     if nat_eq from to then Err SameSuite
@@ -73,13 +74,13 @@ abbrev pub copy_answer : ConfigValue → PlainArchive → Option ℕ → Option 
 copy_answer config a (Some from) (Some to) source moment = copy_between config a from to source moment
 copy_answer config a _ _ source moment = Err UnknownSuite
 
--- how many items of the second are new after a copy of a source package, where the first shows an item of it
+-- how many items of the second are new after a copy of a source package, if the first shows an item of it
 abbrev pub new_items : ConfigValue → ℕ → ℕ → ℕ → PlainArchive → List ℕ → Option ℕ
 new_items config moment from to a source =
     if list_any (is_shown_of from source) (entries (shown_in a))
     then Some (count_of_new to a (copied config moment a from to source)) else None
 
--- what copies of source packages in a row answer, each made of what those before it leave
+-- the answers of copies of source packages in a row, each made from what those before it leave
 abbrev pub copies_in : ConfigValue → ℕ → ℕ → ℕ → PlainArchive → List (List ℕ) → List (List ℕ × Option ℕ)
 copies_in config moment from to a [] = []
 copies_in config moment from to a (source ∷ sources) =
@@ -94,18 +95,20 @@ line_on_copy None source = codes "refused Q8 " ++ source
 abbrev pub copy_line : List ℕ × Option ℕ → List ℕ
 copy_line copy = line_on_copy copy.1 copy.0
 
--- of suites that are there: they differ, or else what the copies of the source packages answer
+-- the answer to a promotion: a fault if a suite is missing or both are one suite, else the answers of the copies of the source
+-- packages
 abbrev pub promotion_answer : ConfigValue → PlainArchive → Option ℕ → Option ℕ → Option (List (List ℕ)) → ℕ → Result Reply Fault
 promotion_answer config a (Some from) (Some to) sources moment =
     if nat_eq from to then Err SameSuite
     else Ok (Copies (copies_in config moment from to a (sources_in a from sources)))
 promotion_answer config a _ _ sources moment = Err UnknownSuite
 
--- how many items of the package the suite shows
+-- the number of items of the package that the suite shows
 unfoldable pub count_of_shown : ℕ → List ℕ → PlainArchive → ℕ
 count_of_shown suite name a = length (filter (is_removed suite name) (entries (shown_in a)))
 
--- of a suite that is there: how many items of the package it shows, where it shows one
+-- the answer to a removal: a fault if the suite is missing or shows no item of the package, else how many items of the package it
+-- shows
 abbrev pub removal_answer : PlainArchive → Option ℕ → List ℕ → Result Reply Fault
 removal_answer a None name = Err UnknownSuite
 removal_answer a (Some suite) name =
@@ -128,18 +131,17 @@ answer h (Promoting from to sources moment) = unless_late moment
     (promotion_answer h.opening.config (archive h) (suite_named h.opening.config from) (suite_named h.opening.config to) sources moment)
 answer h VerdictList = Ok (Lines (map report_line (archive h).judged))
 
--- one is missing, or they are the same
+-- one suite is missing, or both are one suite
 abbrev pub are_no_two : Option ℕ → Option ℕ → Bool
 are_no_two (Some from) (Some to) = nat_eq from to
 are_no_two _ _ = true
 
--- whether a copy, or a promotion, is refused by neither its moment nor its suites: these are two of the configuration, and not the
--- same
+-- neither the moment nor the suites refuse a copy or a promotion: both suites are in the configuration, and they differ
 unfoldable pub is_free_copy : ConfigValue → List ℕ → List ℕ → ℕ → Bool
 is_free_copy config from to moment =
     not (nat_lt latest moment) && not (are_no_two (suite_named config from) (suite_named config to))
 
--- whether a removal is refused by neither its moment nor its suite, which is one of the configuration
+-- neither the moment nor the suite refuses a removal: the suite is in the configuration
 unfoldable pub is_free_removal : ConfigValue → List ℕ → ℕ → Bool
 is_free_removal config suite moment = not (nat_lt latest moment) && is_some (suite_named config suite)
 
@@ -156,8 +158,8 @@ is_refused h (Promoting from to sources moment) =
     nat_lt latest moment || are_no_two (suite_named h.opening.config from) (suite_named h.opening.config to)
 is_refused h call = false
 
--- The outcome is the answer. In its place want of memory may stand, and a fault of the keeper where it may have one and
--- the call is not refused anyhow.
+-- The outcome is the answer. In its place there may be want of memory. There may also be a fault of the keeper, if the keeper can
+-- have one and the call is not refused anyhow.
 abbrev pub IsAnswer : Bool → History → Call → Result Reply Fault → Type 0
 IsAnswer may_fail h call (Err OutOfMemory) = ⊤
 IsAnswer may_fail h call (Err (Keeper fault)) = IsTrue may_fail × IsOfDisk fault × (is_refused h call ≡ false)
@@ -169,12 +171,12 @@ pub record IsKept (is_open : Type 0) (book : Book) (h : History) : Type 0 where
   pub config : book.config ≡ h.opening.config
   pub stands : is_open → Stands book h
 
--- The outcome is the answer after the history, and then what the history with this call behind it leaves is kept.
+-- The outcome is the answer after the history, and what the history followed by this call leaves is then kept.
 pub record IsStep (may_fail : Bool) (h : History) (call : Call) (outcome : Result Reply Fault) (is_open : Type 0) (after : Book) : Type 0 where
   pub answered : IsAnswer may_fail h call outcome
   pub kept : IsKept is_open after (followed h call outcome)
 
--- one outcome a call, each the answer at its place, and then what the longer history leaves is kept
+-- one outcome a call, each the answer at its place; what the longer history leaves is then kept
 abbrev pub IsRun : Bool → History → List Call → List (Result Reply Fault) → (is_open : Type 0) → (after : Book) → Type 0
 IsRun may_fail h [] [] is_open after = IsKept is_open after h
 IsRun may_fail h (call ∷ calls) (outcome ∷ outcomes) is_open after =
@@ -182,13 +184,13 @@ IsRun may_fail h (call ∷ calls) (outcome ∷ outcomes) is_open after =
 IsRun may_fail h [] (outcome ∷ outcomes) is_open after = ⊥
 IsRun may_fail h (call ∷ calls) [] is_open after = ⊥
 
--- A history may open with a book whose bodies are among these, and which is that of its own plain archive.
+-- A history may open with this book: its bodies are among these, and it is the book of its own plain archive.
 pub record IsOpening (bodies : List (List ℕ)) (book : Book) : Type 0 where
   pub known : HasBodies bodies book
   pub whole : Stands book (record { opening = book; steps = [] })
 
--- The history opens with the book that it leaves without calls, and of all bodies of the opening, of the history and of
--- these calls no two have one print.
+-- The history opens with the book that it leaves without calls. No two bodies of the opening, of the history and of these calls
+-- have one print.
 pub record IsFaithful (h : History) (calls : List Call) : Type 0 where
   pub bodies : List (List ℕ)
   pub apart : NoCollision bodies

@@ -53,7 +53,7 @@ pool_in a = pool_of (files_with (values (shown_in a)))
 
 -- ---- dates
 
--- the second shows an item of the suite that the first has not, by its shelf and the text of its version
+-- the second shows an item of the suite that the first does not show, by its shelf and the text of its version
 unfoldable pub has_more : ℕ → ShelvesWith BodyItem → ShelvesWith BodyItem → Bool
 has_more suite old new =
     list_any (λ e. nat_eq e.0.suite suite && not (option_map_or (λ x. bytes_eq x.version e.1.version) (get old e.0) false)) (entries new)
@@ -91,7 +91,7 @@ unfoldable pub contents_of : WholeUpload → PoolWith (List ℕ) → Entry → L
 contents_of w pool e = unwrap_or
     (option_or (listed_body w e.name) (get pool (pool_path (component w.upload.changes) w.upload.changes.source e.name))) []
 
--- bodies tell of themselves, and a listed file has the one that the upload brings
+-- each body describes itself, and a listed file has the body that the upload brings
 abbrev pub by_body : WholeUpload → Telling (List ℕ)
 by_body w = record { print = print_of; same = bytes_eq; of_entry = λ e. unwrap_or (listed_body w e.name) [] }
 
@@ -100,7 +100,7 @@ unfoldable pub items_given : ConfigValue → PlainArchive → WholeUpload → Li
 items_given config a w =
     given config w.upload (items_of (contents_of w (pool_in a)) w.upload (component w.upload.changes))
 
--- an upload is judged, and where it is accepted its suite is given its items
+-- an upload is judged, and if it is accepted its suite is given its items
 unfoldable pub whole : ConfigValue → ℕ → PlainArchive → WholeUpload → PlainArchive
 whole config moment a w =
     let v = verdict_with (by_body w) (pool_in a) config w.upload in
@@ -113,7 +113,7 @@ whole config moment a w =
 abbrev pub suite_named : ConfigValue → List ℕ → Option ℕ
 suite_named config name = rules.suite_named config.suites name
 
--- whether a suite shows the item and it is of the source package
+-- the suite shows the item, which is of the source package
 unfoldable pub is_shown_of : ℕ → List ℕ → ShelfKey × BodyItem → Bool
 is_shown_of from source e = nat_eq e.0.suite from && bytes_eq e.1.source source
 
@@ -149,7 +149,7 @@ abbrev pub sources_in : PlainArchive → ℕ → Option (List (List ℕ)) → Li
 sources_in a from (Some sources) = each_once sources
 sources_in a from None = each_once (sources_shown a from)
 
--- what copies of source packages in a row leave, each made of what those before it leave
+-- what copies of source packages in a row leave, each made from what those before it leave
 abbrev pub copied_all : ConfigValue → ℕ → ℕ → ℕ → PlainArchive → List (List ℕ) → PlainArchive
 copied_all config moment from to a sources = fold (λ now source. copied config moment now from to source) a sources
 
@@ -174,13 +174,13 @@ acted config a (Copy from to source moment) = copied config moment a from to sou
 acted config a (Remove suite name moment) = removed moment a suite name
 acted config a (Promote from to sources moment) = copied_all config moment from to a (sources_in a from sources)
 
--- a .changes with the body that is among the arrivals for each file that it lists
+-- an upload handed over whole: a .changes, and for each file that it lists the body that is among the arrivals
 unfoldable pub whole_of : List Arrival → Candidate → WholeUpload
 whole_of arrivals c = record { upload = upload_of arrivals c; bodies = map (body_for arrivals) c.changes.entries }
 
--- What a call behind those before it does to the plain archive: a run that was done hands over each upload that is due at its
--- moment; a copy that was done copies, a removal that was done removes, a promotion that was done copies each of its source
--- packages in turn; no other call does anything, a cleaning neither.
+-- What a call after those before it does to the plain archive. A run that was done hands over each upload that is due at its
+-- moment. A copy that was done copies, a removal that was done removes, and a promotion that was done copies each of its
+-- source packages in turn. No other call does anything, not even a cleaning.
 unfoldable pub acts_of : Book → List Step → Call → Result Reply Fault → List Act
 acts_of opening before (QueueRun moment) (Ok reply) =
     map (λ c. Whole (whole_of (counting opening before moment) c) moment) (due_after opening before moment)

@@ -14,17 +14,17 @@ use Rattle.history.specs.Histories.{History, opened_with}
 abbrev pub reopened : ConfigValue → ℕ → History → History
 reopened config moment h = opened_with (configured config moment (book_of h))
 
--- What was left is this book; or the configured one, and then the configuration keeps all that the book shows.
+-- What was left is this book, or the configured one. The latter is left only if the configuration keeps all that the book shows.
 abbrev pub IsLeftConfigured : ConfigValue → ℕ → Book → Option Book → Type 0
 IsLeftConfigured config moment book left = (left ≡ Some book) ⊎ ((keeps_shown config book ≡ true) × (left ≡ Some (configured config moment book)))
 
 module _ {K : Type 0} (g : Ghosts K) (old : K) where
-  -- what it leaves of the archive's keeper
+  -- what another configuration leaves of the archive's keeper
   abbrev pub Endures : K → Type 0
   Endures new = keeping.Endures g.is_clean g.is_open g.faults old new
 
-  -- Done, it is what the history leaves that goes on under the configuration, and all that is shown was kept by it. Refused, what was
-  -- kept is kept still; and where the fault says so, something that is shown would not be kept.
+  -- If it is done, what the history leaves goes on under the configuration, which keeps all that is shown. If it is refused, what was
+  -- kept is still kept.
   abbrev pub Configures : ConfigValue → ℕ → {T : Type 0} → Result T KeepFault → K → Type 0
   Configures config moment (Ok done) new = (h : History) → IsKept (g.is_open old) (g.book old) h → g.is_clean new
       → (keeps_shown config (book_of h) ≡ true) × IsKept (g.is_open new) (g.book new) (reopened config moment h)

@@ -14,7 +14,7 @@ use Rattle.history.specs.Deliveries.{or_else}
 use Rattle.history.specs.declared.fault.Fault.{Fault}
 use Rattle.history.specs.declared.fault.Fault.TheVariants.{Moment, UnknownSuite, SameSuite, NothingToCopy}
 
--- whether the suite shows the item and it is of the source package
+-- the item is of the suite and of the source package
 unfoldable pub is_item_of : ℕ → List ℕ → ShelfKey × Item → Bool
 is_item_of suite source e = nat_eq e.0.suite suite && bytes_eq e.1.source source
 
@@ -32,15 +32,15 @@ abbrev pub source_fault : ShelvesValue → Option ℕ → List ℕ → Option Fa
 source_fault shelves (Some from) source = if shows_source shelves from source then None else Some NothingToCopy
 source_fault shelves None source = None
 
--- Why a copy is refused, the lowest that applies: the moment is too late, no suite has a codename, the suites are the
--- same, the first shows no item of the source package.
+-- Why a copy is refused, by the lowest fault that applies: the moment is too late, no suite has a codename, both are
+-- one suite, the first shows no item of the source package.
 unfoldable pub copy_fault : Book → List ℕ → List ℕ → List ℕ → ℕ → Option Fault
 copy_fault book from to source moment =
     if nat_lt latest moment then Some Moment
     else or_else (suites_fault (suite_named book.config from) (suite_named book.config to))
     (source_fault book.shown (suite_named book.config from) source)
 
--- two suites that are not the same, with their positions
+-- the positions of two different suites, by their codenames
 pub record AreSuites (config : ConfigValue) (from to : List ℕ) (first second : ℕ) : Type 0 where
   pub from_named : suite_named config from ≡ Some first
   pub to_named : suite_named config to ≡ Some second

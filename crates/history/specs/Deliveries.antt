@@ -15,7 +15,7 @@ abbrev pub fault_of_read : Result ChangesValue RecordFault → Option Fault
 fault_of_read (Ok changes) = None
 fault_of_read (Err fault) = Some (Record fault)
 
--- the body of a .changes has to be one
+-- the fault of the body of a .changes, if it can not be read as one
 unfoldable pub record_fault : List ℕ → List ℕ → Option Fault
 record_fault name body = if is_changes_name name then fault_of_read (changes_in body) else None
 
@@ -23,8 +23,8 @@ abbrev pub or_else : Option Fault → Option Fault → Option Fault
 or_else None other = other
 or_else (Some fault) other = Some fault
 
--- Why a delivery is refused by its name, its body and its moment alone, the lowest that applies: the name is no file name,
--- the body is too large, the body of a .changes is none, the moment is too late.
+-- Why a delivery is refused by its name, its body and its moment alone, by the lowest fault that applies: the name is no
+-- file name, the body is too large, the body of a .changes can not be read as one, the moment is too late.
 unfoldable pub delivery_fault : List ℕ → List ℕ → ℕ → Option Fault
 delivery_fault name body moment =
     if not (is_file_name name) then Some BadName
@@ -37,8 +37,8 @@ IsOfDisk keep_faults.Disk = ⊤
 IsOfDisk keep_faults.Size = ⊤
 IsOfDisk fault = ⊥
 
--- The refusal is the keeper's own: want of memory, or a disk or size that failed, where the keeper can have one and the call
--- is free of any other refusal.
+-- The refusal is the keeper's own. It is want of memory; or it is a disk or size that failed, if the keeper can have such a
+-- fault and the call is free of any other refusal.
 abbrev pub IsKeepers : Bool → (free : Type 0) → Fault → Type 0
 IsKeepers may_fail free OutOfMemory = ⊤
 IsKeepers may_fail free (Keeper fault) = IsTrue may_fail × IsOfDisk fault × free

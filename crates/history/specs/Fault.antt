@@ -24,7 +24,7 @@ fault_number Ended = 9
 fault_number ReaderFailed = 10
 fault_number NothingToRemove = 11
 
--- a fault's text: its letter and its number, and behind a space the fault of the record or of the keeper
+-- a fault's text: its letter and its number, and after a space the fault of the record or of the keeper
 abbrev pub fault_text : Fault → List ℕ
 fault_text OutOfMemory = codes "Q0"
 fault_text BadName = codes "Q1"

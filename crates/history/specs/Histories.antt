@@ -6,8 +6,8 @@ use Rattle.keep.specs.declared.arrival.Arrival.{Arrival}
 use Rattle.history.specs.Before.{before_each}
 use Rattle.history.specs.declared.fault.Fault.{Fault}
 
--- A call of the archive, with its arguments; suites by their codenames. A promotion is of the source packages that are named, or
--- else of all that the first suite shows.
+-- A call of the archive, with its arguments; suites are named by their codenames. A promotion is of the source packages that are
+-- named, or else of all that the first suite shows.
 pub data Call : Type 0 where
   Delivery : (name : List ℕ) (body : List ℕ) (moment : ℕ) → Call
   QueueRun : (moment : ℕ) → Call
@@ -27,7 +27,7 @@ pub data Reply : Type 0 where
   Found : (file : Option (List ℕ)) → Reply
   Copies : (copies : List (List ℕ × Option ℕ)) → Reply
 
--- a call and its outcome. It is done where the outcome is no refusal.
+-- A call and its outcome. The call is done if the outcome is no refusal.
 pub record Step : Type 0 where
   pub call : Call
   pub outcome : Result Reply Fault
@@ -37,8 +37,8 @@ pub record History : Type 0 where
   pub opening : Book
   pub steps : List Step
 
--- The arrivals after a call with this outcome, where each counts for so many seconds: a delivery that was done adds its pair, a
--- cleaning that was done leaves what counts at its moment.
+-- The arrivals after a call with this outcome, if each counts for this number of seconds (for good if there is no number). A
+-- delivery that was done adds its pair. A cleaning that was done leaves what counts at its moment.
 unfoldable pub arrivals_after : Option ℕ → List Arrival → Call → Result Reply Fault → List Arrival
 arrivals_after seconds arrivals (Delivery name body moment) (Ok reply) =
     with_arrival arrivals (record { name = name; body = body; moment = moment })
@@ -50,7 +50,7 @@ unfoldable pub arrived : Book → List Step → List Arrival
 arrived opening steps =
     fold (λ arrivals step. arrivals_after (span opening.config) arrivals step.call step.outcome) opening.arrivals steps
 
--- what of it counts at a moment
+-- what has arrived and counts at a moment
 unfoldable pub counting : Book → List Step → ℕ → List Arrival
 counting opening steps moment = current (span opening.config) moment (arrived opening steps)
 
@@ -74,7 +74,7 @@ unfoldable pub waiting_after : Book → List Step → ℕ → List Candidate
 waiting_after opening steps moment =
     in_order (filter (λ c. not (was_judged opening steps c)) (candidates (counting opening steps moment)))
 
--- what a run behind these calls judges at its moment: what is complete, and was so at no earlier run
+-- what a run after these calls judges at its moment: what is complete, and was so at no earlier run
 abbrev pub due_after : Book → List Step → ℕ → List Candidate
 due_after opening steps moment = filter (is_complete (counting opening steps moment)) (waiting_after opening steps moment)
 
@@ -93,6 +93,6 @@ calls_of steps = map (λ step. step.call) steps
 abbrev pub opened_with : Book → History
 opened_with book = record { opening = book; steps = [] }
 
--- the history with one more call behind it
+-- the history with one more call
 abbrev pub followed : History → Call → Result Reply Fault → History
 followed h call outcome = record h { steps = h.steps ++ record { call = call; outcome = outcome } ∷ [] }

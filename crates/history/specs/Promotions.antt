@@ -18,7 +18,8 @@ use Rattle.history.specs.Histories.{Copying, Count, History, Reply, followed}
 use Rattle.history.specs.declared.fault.Fault.{Fault}
 use Rattle.history.specs.declared.fault.Fault.TheVariants.{Moment}
 
--- Why a promotion is refused, the lowest that applies: the moment is too late, no suite has a codename, the suites are the same.
+-- Why a promotion is refused, by the lowest fault that applies: the moment is too late, no suite has a codename, both are one
+-- suite.
 unfoldable pub promotion_fault : ConfigValue → List ℕ → List ℕ → ℕ → Option Fault
 promotion_fault config from to moment =
     if nat_lt latest moment then Some Moment else suites_fault (suite_named config from) (suite_named config to)
@@ -34,12 +35,12 @@ IsPromotionFault may_fail config from to moment fault =
 unfoldable pub sources_on : ShelvesValue → ℕ → List (List ℕ)
 sources_on shelves from = map (λ e. e.1.source) (filter (λ e. nat_eq e.0.suite from) (entries shelves))
 
--- those of a promotion, in the order of their bytes, each once
+-- the source packages of a promotion, in the order of their bytes, each once
 abbrev pub sources_from : ShelvesValue → ℕ → Option (List (List ℕ)) → List (List ℕ)
 sources_from shelves from (Some sources) = each_once sources
 sources_from shelves from None = each_once (sources_on shelves from)
 
--- the shelves that a group has, none where there is no group
+-- the shelves that a group has; there are none if there is no group
 abbrev pub keys_in : Option (Vec ShelfKey Global) → List ShelfKey
 keys_in None = []
 keys_in (Some keys) = keys.items
@@ -61,11 +62,11 @@ AreCopied config from to shelves (source ∷ sources) (step ∷ steps) =
 AreCopied config from to shelves [] (step ∷ steps) = ⊥
 AreCopied config from to shelves (source ∷ sources) [] = ⊥
 
--- how many items a step puts, where the suite shows an item of the source package
+-- how many items a step puts, if the suite shows an item of the source package
 abbrev pub items_put : ShelvesValue → ℕ → List ℕ → Step → Option ℕ
 items_put shelves from source step = if shows_source shelves from source then Some (length step.plan.put) else None
 
--- the same of each, on what those before it leave
+-- each source package and how many items its step puts, on what those before it leave
 abbrev pub copies_on : ConfigValue → ℕ → ℕ → ShelvesValue → List (List ℕ) → List Step → List (List ℕ × Option ℕ)
 copies_on config from to shelves [] steps = []
 copies_on config from to shelves (source ∷ sources) [] = []
@@ -74,15 +75,15 @@ copies_on config from to shelves (source ∷ sources) (step ∷ steps) =
 
 -- ---- copies in a row
 
--- the history with a copy behind it, and with what the plain archive answers to that
+-- the history with a copy after it, and with what the plain archive answers to that copy
 abbrev pub with_copy : History → List ℕ → List ℕ → ℕ → List ℕ → History
 with_copy h from to moment source = followed h (Copying from to source moment) (answer h (Copying from to source moment))
 
--- the same with a copy of each source package in turn
+-- the history with a copy of each source package in turn, and with the answers
 abbrev pub with_copies : History → List ℕ → List ℕ → ℕ → List (List ℕ) → History
 with_copies h from to moment sources = fold (λ now source. with_copy now from to moment source) h sources
 
--- how many items a copy says are new; none where it is refused
+-- how many items a copy says are new; `None` if it is refused
 abbrev pub items_new : Result Reply Fault → Option ℕ
 items_new (Ok (Count items)) = Some items
 items_new outcome = None

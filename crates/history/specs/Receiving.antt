@@ -17,23 +17,23 @@ use Rattle.sums.specs.Lines.{most_size}
 
 -- ---- what a reader gave
 
--- a body of this size
+-- the reader gave a body of this size
 abbrev pub Gave : Option (List ℕ) → Option (List ℕ) → ℕ → List ℕ → Type 0
 Gave old new n body = Consumes old new body × (length body ≡ n)
 
--- so many bytes at the most
+-- the reader gave at most `n` bytes
 pub record GaveUpTo (old new : Option (List ℕ)) (n : ℕ) : Type 0 where
   pub front : List ℕ
   pub read : Consumes old new front
   pub short : length front ≤ n
 
--- fewer, and failed
+-- the reader gave fewer than `n` bytes, and failed
 pub record GaveFewer (old new : Option (List ℕ)) (n : ℕ) : Type 0 where
   pub front : List ℕ
   pub read : Consumes old new front
   pub short : length front < n
 
--- fewer, and that was all that it had
+-- the reader gave fewer than `n` bytes, and these were all that it had
 pub record HeldFewer (old new : Option (List ℕ)) (n : ℕ) : Type 0 where
   pub front : List ℕ
   pub read : Consumes old new front
@@ -48,7 +48,7 @@ HasRead may_fail old new n Ended = HeldFewer old new n
 HasRead may_fail old new n ReaderFailed = GaveFewer old new n
 HasRead may_fail old new n fault = ⊥
 
--- Why so many bytes can't be read on, and what was read.
+-- Why `n` bytes can't be read on, and what was read.
 abbrev pub WasShort : Option (List ℕ) → Option (List ℕ) → ℕ → Fault → Type 0
 WasShort old new n Ended = HeldFewer old new n
 WasShort old new n ReaderFailed = GaveFewer old new n
@@ -56,7 +56,7 @@ WasShort old new n fault = ⊥
 
 -- ---- what is stored
 
--- A body was begun, of whole pieces so far, that may have a piece of so many bytes.
+-- A body was begun. It has whole pieces so far, and may get a piece of this size.
 pub record MayTake (coming : Option (List ℕ)) (size : ℕ) : Type 0 where
   pub body : List ℕ
   pub begun : coming ≡ Some body
@@ -64,11 +64,11 @@ pub record MayTake (coming : Option (List ℕ)) (size : ℕ) : Type 0 where
   pub some : 0 < size
   pub small : size ≤ 65536
 
--- Whatever body of this size comes may be kept under the name.
+-- Any body of this size may be kept under the name.
 abbrev pub MayBeKept : List ℕ → ℕ → Type 0
 MayBeKept name n = (body : List ℕ) → length body ≡ n → IsDeliverable name body
 
--- The body that the reader gave has arrived; it is new where no arrival of this name and body counts at the moment.
+-- The body that the reader gave has arrived. It is new if no arrival of this name and body counts at the moment.
 pub record HasArrived (gave gives : Option (List ℕ)) (n : ℕ) (is_clean : Type 0) (old after : Book) (name : List ℕ) (moment : ℕ) (new : Bool) : Type 0 where
   pub body : List ℕ
   pub gave_it : Gave gave gives n body
@@ -92,30 +92,30 @@ module _ {K : Type 0} (g : Ghosts K) (before after : K) (gave gives : Option (Li
 
 -- ---- the delivery
 
--- The fault is that of the delivery: the whole body was read, or of one that is too large nothing.
+-- The fault is that of the delivery. The whole body was read; or the body is too large, and nothing was read.
 abbrev pub IsRefusedFor : Option (List ℕ) → Option (List ℕ) → List ℕ → ℕ → ℕ → Fault → Type 0
 IsRefusedFor old new name n moment fault =
     ((body : List ℕ) × Gave old new n body × (n ≤ most_size) × (delivery_fault name body moment ≡ Some fault))
     ⊎ ((most_size < n) × Keeps old new × ((body : List ℕ) → length body ≡ n → delivery_fault name body moment ≡ Some fault))
 
--- A keeper's fault comes only where no body that goes on as it began is refused by itself.
+-- The call was cut off by a fault of the keeper. It comes only if no body that begins with what was read is refused by itself.
 pub record IsCutOff (old new : Option (List ℕ)) (name : List ℕ) (n moment : ℕ) : Type 0 where
   pub gave : GaveUpTo old new n
   pub free : (body : List ℕ) → length body ≡ n → ((rest : List ℕ) × (body ≡ gave.front ++ rest)) → delivery_fault name body moment ≡ None
 
--- A crash left the book that the history leaves with the body that the reader gave behind it.
+-- A crash left the book that the history leaves after the delivery of the body that the reader gave.
 pub record IsLeftBy (h : History) (old new : Option (List ℕ)) (name : List ℕ) (n moment : ℕ) (left : Option Book) : Type 0 where
   pub body : List ℕ
   pub gave_it : Gave old new n body
   pub stands : IsFaithful h (Delivery name body moment ∷ []) → left ≡ Some (book_of (followed h (Delivery name body moment) (answer h (Delivery name body moment))))
 
 module _ {K : Type 0} (g : Ghosts K) where
-  -- what a history left is kept still
+  -- what a history left is still kept
   abbrev pub IsAsBefore : K → K → Type 0
   IsAsBefore before after = (h : History) → IsKept (g.is_open before) (g.book before) h → g.is_clean after → IsKept (g.is_open after) (g.book after) h
 
-  -- What came of the delivery: the step of the body that the reader gave, or a refusal, by which it says what was read; behind
-  -- one what was kept is kept still.
+  -- What came of the delivery: the step of the body that the reader gave, or a refusal. A refusal says what was read, and
+  -- after it what was kept is still kept.
   abbrev pub IsReceived : (old new : Option (List ℕ)) → (name : List ℕ) → (n moment : ℕ) → (before after : K) → Result Arrived Fault → Type 0
   IsReceived old new name n moment before after (Ok arrived) =
       (body : List ℕ) × Gave old new n body × Does g before (Delivery name body moment) (stored (Ok arrived)) after

@@ -15,18 +15,18 @@ use Rattle.history.specs.declared.fault.Fault.TheVariants.{Moment, UnknownSuite,
 unfoldable pub shows_package : ShelvesValue → ℕ → List ℕ → Bool
 shows_package shelves suite name = list_any (is_removed suite name) (entries shelves)
 
--- why there is no removal from a suite: it is missing
+-- why there is no removal from a suite: the suite is missing
 abbrev pub suite_fault : Option ℕ → Option Fault
 suite_fault (Some suite) = None
 suite_fault None = Some UnknownSuite
 
--- it shows no item of the package
+-- why there is no removal from a suite: it shows no item of the package
 abbrev pub package_fault : ShelvesValue → Option ℕ → List ℕ → Option Fault
 package_fault shelves (Some suite) name = if shows_package shelves suite name then None else Some NothingToRemove
 package_fault shelves None name = None
 
--- Why a removal is refused, the lowest that applies: the moment is too late, no suite has the codename, the suite shows no
--- item of the package.
+-- Why a removal is refused, by the lowest fault that applies: the moment is too late, no suite has the codename, the suite
+-- shows no item of the package.
 unfoldable pub removal_fault : Book → List ℕ → List ℕ → ℕ → Option Fault
 removal_fault book suite name moment =
     if nat_lt latest moment then Some Moment

@@ -12,15 +12,15 @@ use Rattle.history.specs.Histories.{Call, Delivery, Reply, History, followed}
 use Rattle.history.specs.declared.command.Outcome.{Outcome}
 use Rattle.history.specs.declared.fault.Fault.{Fault}
 
--- What was left is the book that the history leaves with the first of these calls behind it, none, some or all of them; or that
--- with the whole call that follows them besides.
+-- What was left is the book that the history leaves after none, some or all of these calls, or also after the whole of the next call.
 abbrev pub IsLeftAlong : History → List Call → List (Result Reply Fault) → Option Book → Type 0
 IsLeftAlong h (call ∷ calls) (outcome ∷ outcomes) left =
     (left ≡ Some (book_of h)) ⊎ ((left ≡ Some (book_of (followed h call (answer h call)))) ⊎ IsLeftAlong (followed h call outcome) calls outcomes left)
 IsLeftAlong h calls outcomes left = left ≡ Some (book_of h)
 
 module _ {K : Type 0} (g : Ghosts K) (old : K) where
-  -- what each call leaves of the archive's keeper, what one leaves that changes nothing, and what one that writes nothing that counts
+  -- what each call leaves of the archive's keeper; `Reads`: a call that changes nothing; `Stays`: a call that writes nothing that
+  -- counts
   abbrev pub Lasts : K → Type 0
   Lasts new = keeping.Lasts g.is_clean g.is_open g.faults g.book old new
 
@@ -34,8 +34,8 @@ module _ {K : Type 0} (g : Ghosts K) (old : K) where
   abbrev pub Leaves : K → (Option Book → Type 0) → Type 0
   Leaves new Whole = keeping.Leaves g.is_clean g.is_open g.may_leave old new Whole
 
-  -- The call, with this outcome, is a step behind each history whose book is kept: the outcome is the answer of its plain
-  -- archive, and what the longer history leaves is kept then.
+  -- The call, with this outcome, is a step after each history whose book is kept: the outcome is the answer of its plain archive, and
+  -- what the longer history leaves is then kept.
   abbrev pub Does : Call → Result Reply Fault → K → Type 0
   Does call outcome new = (h : History) → IsKept (g.is_open old) (g.book old) h → IsFaithful h (call ∷ []) → g.is_clean new
       → IsStep g.may_fail h call outcome (g.is_open new) (g.book new)
@@ -45,27 +45,27 @@ module _ {K : Type 0} (g : Ghosts K) (old : K) where
   LeavesStep call new = (h : History) → IsKept (g.is_open old) (g.book old) h → IsFaithful h (call ∷ []) → g.is_clean new
       → (left : Option Book) → g.may_leave new left → g.may_leave old left ⊎ (left ≡ Some (book_of (followed h call (answer h call))))
 
-  -- A crash in a delivery, which is stored piece by piece, leaves what it would have left before, what the history left, or all
-  -- that the delivery does; the last alone is said of bodies among which no two have one print.
+  -- A crash in a delivery, which is stored piece by piece, leaves what it would have left before, what the history left, or all that
+  -- the delivery does. Only the last requires that no two bodies have one print.
   abbrev pub LeavesDelivery : (name body : List ℕ) (moment : ℕ) → K → Type 0
   LeavesDelivery name body moment new = (h : History) → IsKept (g.is_open old) (g.book old) h → g.is_clean new → (left : Option Book) → g.may_leave new left
       → g.may_leave old left ⊎ ((left ≡ Some (book_of h))
       ⊎ (IsFaithful h (Delivery name body moment ∷ []) → left ≡ Some (book_of (followed h (Delivery name body moment) (answer h (Delivery name body moment))))))
 
-  -- What follows from either: what a crash leaves of a call.
+  -- What a crash leaves of a call: it follows from `LeavesStep` and from `LeavesDelivery`.
   abbrev pub LeavesCall : Call → K → Type 0
   LeavesCall call new = (h : History) → IsKept (g.is_open old) (g.book old) h → IsFaithful h (call ∷ []) → g.is_clean new
       → (left : Option Book) → g.may_leave new left
       → g.may_leave old left ⊎ ((left ≡ Some (book_of h)) ⊎ (left ≡ Some (book_of (followed h call (answer h call)))))
 
-  -- The calls, with these outcomes, are a run behind each history whose book is kept: each outcome is the answer of its plain
-  -- archive at its place, and what the longer history leaves is kept then.
+  -- The calls, with these outcomes, are a run after each history whose book is kept: each outcome is the answer of its plain archive
+  -- at its place, and what the longer history leaves is then kept.
   abbrev pub DoesAll : List Call → List (Result Reply Fault) → K → Type 0
   DoesAll calls outcomes new = (h : History) → IsKept (g.is_open old) (g.book old) h → IsFaithful h calls → g.is_clean new
       → IsRun g.may_fail h calls outcomes (g.is_open new) (g.book new)
 
-  -- A crash during these calls, one behind the other, or behind them leaves what it would have left before, or what the history
-  -- leaves with the first of them behind it, none, some or all; or that with the whole call that follows them besides.
+  -- A crash during or after these calls, one after the other, leaves what it would have left before, or what the history leaves after
+  -- none, some or all of them, or also after the whole of the next call.
   abbrev pub LeavesRun : List Call → List (Result Reply Fault) → K → Type 0
   LeavesRun calls outcomes new = (h : History) → IsKept (g.is_open old) (g.book old) h → IsFaithful h calls → g.is_clean new
       → (left : Option Book) → g.may_leave new left → g.may_leave old left ⊎ IsLeftAlong h calls outcomes left
@@ -75,17 +75,17 @@ module _ {K : Type 0} (g : Ghosts K) (old : K) where
   IsUndone new = g.is_clean new → g.is_open new → g.book new ≡ g.book old
 
 module _ {K : Type 0} (g : Ghosts K) (new : K) where
-  -- Where the call is done the keeper is open.
+  -- If the call is done the keeper is open.
   abbrev pub IsServed : Result Reply Fault → Type 0
   IsServed (Ok reply) = g.is_clean new → g.is_open new
   IsServed (Err fault) = ⊤
 
-  -- the same of the last of these outcomes
+  -- if the last of these outcomes is done the keeper is open
   abbrev pub IsServedLast : List (Result Reply Fault) → Type 0
   IsServedLast [] = ⊤
   IsServedLast (outcome ∷ []) = IsServed outcome
   IsServedLast (outcome ∷ next ∷ rest) = IsServedLast (next ∷ rest)
 
-  -- the same of the outcomes of commands
+  -- if the last outcome of these commands is done the keeper is open
   abbrev pub IsOpenBehind : Vec Outcome Global → Type 0
   IsOpenBehind outcomes = IsServedLast (map outcome_of outcomes.items)

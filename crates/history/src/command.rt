@@ -11,7 +11,7 @@ use crate::fault::Fault;
 pub enum Arrived {
     /// No body of this print counted under this name.
     New,
-    /// The same name and print had arrived before, and counted still.
+    /// This name and print had arrived before, and still counted.
     Again,
 }
 
@@ -26,7 +26,8 @@ pub struct Report {
 pub struct SourceCopy {
     /// The name of the source package.
     pub source: String,
-    /// How many items are new, or none where the suite that is copied from shows nothing of the source package.
+    /// The number of items that are new, or `None` if the suite that is copied from shows nothing of the source
+    /// package.
     pub items: Option<u64>,
 }
 
@@ -34,7 +35,7 @@ pub struct SourceCopy {
 #[derive(Drop)]
 pub struct Promotion {
     pub copies: Vec<SourceCopy>,
-    /// A line for each: `COUNT SOURCE`, or `refused Q8 SOURCE` where nothing is shown of it.
+    /// A line for each: `COUNT SOURCE`, or `refused Q8 SOURCE` if nothing is shown of it.
     pub report: Report,
     pub ghost lines_of_copies: { lines_of report ≡ map copy_line (map copy_of copies.items) },
 }
@@ -73,7 +74,7 @@ pub enum Command {
     Promote {
         from: String,
         to: String,
-        /// The source packages, or none for all of which the suite `from` shows an item.
+        /// The source packages, or `None` for all of which the suite `from` shows an item.
         sources: Option<Vec<String>>,
         moment: u64,
     },

@@ -13,7 +13,7 @@ use rules::Config;
 use std::alloc::{AllocError, Global};
 use suites::{Item, Plan, ShelfKey, Shelves, plan_copy};
 
-/// The positions of two suites, by their codenames. Refused where there is no such suite, and where they are the same.
+/// The positions of two suites, by their codenames. It is refused if a suite is missing, or if both are one suite.
 pub fn two_suites(config: &Config, from: &str, to: &str) -> Result<(usize, usize), Fault>
     ensures suites { IfOk result (λ places. AreSuites config.now from.now to.now places.0 places.1) }
     ensures refused { IfErr result (λ e. suites_fault (suite_named config.now from.now) (suite_named config.now to.now) ≡ Some e) }
@@ -30,7 +30,7 @@ pub fn two_suites(config: &Config, from: &str, to: &str) -> Result<(usize, usize
     Ok((from, to))
 }
 
-/// Whether the item on the shelf is one of the suite and of the source package.
+/// Whether the item on the shelf belongs to the suite and to the source package.
 #[tactic(auto, unfolding(crate::specs::Copies::is_item_of))]
 fn is_item_of(suite: usize, source: &str, key: &ShelfKey, item: &Item) -> bool
     ensures { result ≡ is_item_of suite source.now (key.now, item.now) }
@@ -53,8 +53,8 @@ fn shows_source(shelves: &Shelves, suite: usize, source: &str) -> bool
     false
 }
 
-/// The plan of a copy of the items of a source package between two suites, by their positions. Refused where the first
-/// shows none.
+/// The plan of a copy of the items of a source package between two suites, by their positions. It is refused if the
+/// first shows no such item.
 pub fn copy_plan(
     alloc: Global,
     config: &Config,
@@ -76,7 +76,7 @@ pub fn copy_plan(
     Ok(plan_copy(alloc, config, shelves, from, to, source)?)
 }
 
-/// Makes a plan on the shelves that it was made for, as the only step of a change, without a judgement.
+/// Applies a plan to the shelves that it was made for, and gives it as the only step of a change, without a judgement.
 pub fn only_step(
     alloc: Global,
     shelves: &mut Shelves,

@@ -9,7 +9,7 @@ use std::alloc::{AllocError, AllocFailed};
 use std::error::Error;
 use std::fmt;
 
-/// Why a call of the archive is refused. Nothing has changed then while the keeper is open.
+/// Why a call of the archive is refused. If the keeper is still open, nothing has changed.
 #[derive(Clone, Copy, Debug, PartialEq, Eq)]
 pub enum Fault {
     /// No memory was left.
@@ -18,7 +18,7 @@ pub enum Fault {
     BadName,
     /// The body has more than 4194304 bytes.
     TooLarge,
-    /// The body of a .changes is none.
+    /// The body of a .changes can not be read as one.
     Record(RecordFault),
     /// The keeper refused, for a disk that failed or a size that is too large.
     Keeper(KeepFault),
@@ -26,7 +26,7 @@ pub enum Fault {
     Moment,
     /// No suite has the codename.
     UnknownSuite,
-    /// A copy from a suite to itself.
+    /// The copy is from a suite to itself.
     SameSuite,
     /// The suite shows no item of the source package.
     NothingToCopy,

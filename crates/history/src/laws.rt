@@ -20,8 +20,8 @@ ghost use Rattle.history.specs.Steps.{DoesAll, IsLeftAlong, LeavesCall, LeavesDe
 
 use keep::Keeper;
 
-/// A history may open with the book of an archive in which nothing is yet, as the plain keeper makes it: that book is the
-/// one of its own plain archive, and stands for the history without calls.
+/// A history may open with the book of an archive in which nothing is yet, as the plain keeper makes it. That book is the one of its own
+/// plain archive, and stands for the history without calls.
 pub fn nothing_is_an_opening()
     ensures { (config : ConfigValue) (moment : ℕ) (bodies : List (List ℕ)) → IsOpening bodies (fresh_book config moment) }
 {}
@@ -32,17 +32,17 @@ pub fn a_book_opens_its_history()
     ensures { (book : Book) → HasItsFiles book → Stands book (opened_with book) }
 {}
 
-/// Where the promise holds for calls behind a history, it holds for them behind the book that the history leaves, as a
-/// keeper has it that was opened again: what is shown there agrees on the contents at each path.
+/// If the promise holds for calls after a history, it holds for them after the book that the history leaves, as a keeper that was opened
+/// again has it. What that book shows has to agree on the contents at each path.
 pub fn a_history_goes_on_from_its_book()
     ensures { (h : History) (calls : List Call) → AreAgreed (files_of (values (book_of h).shown)) → IsFaithful h calls
         → IsFaithful (opened_with (book_of h)) calls }
 {}
 
-/// A book whose files are those of its pool, under another configuration that keeps all that is shown, has its files, too, and stands
-/// for the history that opens with it. So a history goes on under another configuration: where the promise holds for calls behind it, it
-/// holds for them behind the book that it leaves, configured anew. No two suites of the configuration before claim one distribution,
-/// as is so of each that is read.
+/// A book whose files are those of its pool has its files also under another configuration that keeps all that is shown, and stands for
+/// the history that opens with it. So a history goes on under another configuration: if the promise holds for calls after the history,
+/// it holds for them after the book that it leaves, configured anew. No two suites of the configuration before may claim one
+/// distribution, which holds of each configuration that is read.
 pub fn a_configured_book_opens_its_history()
     ensures files { (config : ConfigValue) (moment : ℕ) (book : Book) → ClaimApart book.config.suites → keeps_shown config book ≡ true → HasItsFiles book
         → HasItsFiles (configured config moment book) }
@@ -50,8 +50,8 @@ pub fn a_configured_book_opens_its_history()
         → AreAgreed (files_of (values (book_of h).shown)) → IsFaithful h calls → IsFaithful (reopened config moment h) calls }
 {}
 
-/// Where the configuration has no number of days, all that has arrived counts at each moment, and a cleaning takes nothing and
-/// leaves the book as it is: then the promise is that of an archive which keeps arrivals for good.
+/// If the configuration has no number of days, all that has arrived counts at each moment, and a cleaning takes nothing and leaves the
+/// book as it is. The promise is then that of an archive which keeps arrivals for good.
 pub fn for_good()
     ensures counts { (opening : Book) (steps : List Step) (moment : ℕ) → opening.config.keep_days ≡ None
         → counting opening steps moment ≡ arrived opening steps }
@@ -60,8 +60,8 @@ pub fn for_good()
         → book_of (followed h (Cleaning moment) outcome) ≡ book_of h }
 {}
 
-/// A promotion that is not refused leaves the book that a copy of each of its source packages in turn leaves, each with the same
-/// suites and the same moment, and answers what those answer: how many items are new, and of a copy that is refused none.
+/// A promotion that is not refused leaves the book that a copy of each of its source packages in turn leaves, each with these suites and
+/// at this moment. It answers what those copies answer: how many items are new, and `None` for a copy that is refused.
 pub fn a_promotion_is_its_copies()
     ensures book { (h : History) (from to : List ℕ) (sources : Option (List (List ℕ))) (moment f t : ℕ) → moment ≤ latest → AreSuites h.opening.config from to f t
         → book_of (followed h (Promoting from to sources moment) (answer h (Promoting from to sources moment)))
@@ -70,39 +70,38 @@ pub fn a_promotion_is_its_copies()
         → answer h (Promoting from to sources moment) ≡ Ok (Copies (answered_copies h from to moment (sources_in (archive h) f sources))) }
 {}
 
-/// What is said of a crash in a call, in a delivery, which is stored piece by piece, and in one whose body a reader gives is said
-/// of a call of which a stop may leave nothing done. The body is then what the reader had to give first, of the length that was
-/// told.
+/// What is said of a crash in a call, in a delivery, which is stored piece by piece, and in a delivery whose body a reader gives, is
+/// also said of a call of which a stop may leave nothing done. The body is then the first bytes that the reader had to give, as many as
+/// the announced length.
 pub fn a_crash_is_of_a_call<K: Keeper>()
     ensures step { (before after : K) (call : Call) → LeavesStep K.Keeper before call after → LeavesCall K.Keeper before call after }
     ensures delivery { (before after : K) (name body : List ℕ) (moment : ℕ) → LeavesDelivery K.Keeper before name body moment after
         → LeavesCall K.Keeper before (Delivery name body moment) after }
     ensures received { (before after : K) (name body rest : List ℕ) (gives : Option (List ℕ)) (moment : ℕ)
         → LeavesReceived K.Keeper (Some (body ++ rest)) gives name (length body) moment before after → LeavesCall K.Keeper before (Delivery name body moment) after }
-    // Where the reader had fewer bytes nothing is delivered, so that it is said of each call, also of one that changes nothing.
+    // If the reader had fewer bytes, nothing is delivered. So this is said of each call, also of one that changes nothing.
     ensures short { (before after : K) (name given : List ℕ) (gives : Option (List ℕ)) (n moment : ℕ) (call : Call) → length given < n
         → LeavesReceived K.Keeper (Some given) gives name n moment before after → LeavesCall K.Keeper before call after }
 {}
 
-/// A stop during a call of an open keeper, or behind it, leaves the book that the history leaves, or the one that it leaves with
-/// the whole call; and it does leave one.
+/// A stop during or after a call of an open keeper leaves the book that the history leaves, or the one that it leaves with the whole
+/// call. It does leave one.
 pub fn a_stop_leaves_a_book<K: Keeper>()
     ensures { (before after : K) (h : History) (call : Call) → K.is_clean before → K.is_open before → IsKept (K.is_open before) (K.book before) h → IsFaithful h (call ∷ [])
         → K.is_clean after → LeavesCall K.Keeper before call after → (left : Option Book) → K.may_leave after left
         → (left ≡ Some (book_of h)) ⊎ (left ≡ Some (book_of (followed h call (answer h call)))) }
 {}
 
-/// A stop while an open keeper takes another configuration, or behind that, leaves the book that the history leaves, or the configured
-/// one, and this only where the configuration keeps all that is shown; and it does leave one.
+/// A stop while an open keeper takes another configuration, or afterwards, leaves the book that the history leaves, or the configured
+/// one. The latter happens only if the configuration keeps all that is shown. It does leave one.
 pub fn a_stop_in_a_configuration_leaves_a_book<K: Keeper>()
     ensures { (before after : K) (h : History) (config : ConfigValue) (moment : ℕ) → K.is_clean before → K.is_open before → IsKept (K.is_open before) (K.book before) h
         → K.is_clean after → LeavesConfigured K.Keeper before config moment after → (left : Option Book) → K.may_leave after left
         → IsLeftConfigured config moment (book_of h) left }
 {}
 
-/// Lists of calls, one behind the other, are one list. Where some are a run behind a history, and others are one behind each
-/// history that is kept between them, all of them are a run behind the first; and what is said of two lists is said of both as
-/// one.
+/// Lists of calls, one after the other, are one list. If some calls are a run after a history, and others are a run after each history
+/// that is kept between them, all of them are a run after the first history. What is said of two lists is said of both as one.
 pub fn lists_are_one_list<K: Keeper>()
     ensures run { (h : History) (calls more : List Call) (outcomes others : List (Result Reply Fault)) (between after : K)
         → IsRun K.may_fail h calls outcomes (K.is_open between) (K.book between)
@@ -113,8 +112,8 @@ pub fn lists_are_one_list<K: Keeper>()
         → DoesAll K.Keeper before (calls ++ more) (outcomes ++ others) after }
 {}
 
-/// A crash in two lists of calls, one behind the other, or behind both is one in the list that they are together: what is said of a
-/// crash in each of them is said of a crash in both as one.
+/// A crash in or after two lists of calls, one after the other, is a crash in the list that they are together: what is said of a crash
+/// in each of them is said of a crash in both as one.
 pub fn a_crash_in_lists_is_in_one_list<K: Keeper>()
     ensures crash { (before between after : K) (calls more : List Call) (outcomes others : List (Result Reply Fault)) → (K.is_clean after → K.is_clean between)
         → DoesAll K.Keeper before calls outcomes between → LeavesRun K.Keeper before calls outcomes between → LeavesRun K.Keeper between more others after
@@ -124,8 +123,8 @@ pub fn a_crash_in_lists_is_in_one_list<K: Keeper>()
         → LeavesRun K.Keeper before (call ∷ []) (outcome ∷ []) after }
 {}
 
-/// A stop during a list of calls of an open keeper, or behind it, leaves the book that the history leaves with the first of these
-/// calls behind it, none, some or all; or that with the whole call that follows them besides. And it does leave one.
+/// A stop during or after a list of calls of an open keeper leaves the book that the history leaves after none, some or all of these
+/// calls, or also after the whole of the next call. It does leave one.
 pub fn a_stop_leaves_a_part_of_a_list<K: Keeper>()
     ensures { (before after : K) (h : History) (calls : List Call) (outcomes : List (Result Reply Fault)) → K.is_clean before → K.is_open before
         → IsKept (K.is_open before) (K.book before) h → IsFaithful h calls → K.is_clean after → LeavesRun K.Keeper before calls outcomes after

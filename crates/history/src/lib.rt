@@ -1,5 +1,5 @@
-//! Calls of an archive, what they answer and what becomes of it: the plain archive of a history of calls, the laws of histories, and
-//! what copies, promotions, removals and reports are made of.
+//! Calls of an archive, their answers and their effects: the plain archive of a history of calls, the laws of histories, and the
+//! parts of copies, promotions, removals and reports.
 #![tactic(auto)]
 
 mod command;

@@ -1,4 +1,4 @@
-//! Lines on uploads: the verdict of one that was judged, and what one lacks that waits.
+//! Lines on uploads: the verdict of one that was judged, and the number of missing files of one that waits.
 
 ghost use Rattle.std.specs.Prelude.{◌≡◌, IfOk, map, string_bytes};
 ghost use Rattle.keep.specs.Book.{judgements};

@@ -53,7 +53,7 @@ fn in_order(alloc: Global, names: &[String]) -> Result<BTreeSet<String>, AllocEr
     Ok(set)
 }
 
-/// Whether the shelf is one of the suite.
+/// Whether the shelf belongs to the suite.
 fn is_in(suite: usize, key: &ShelfKey) -> bool
     ensures { result ≡ nat_eq key.now.suite suite }
 {
@@ -200,8 +200,8 @@ fn is_any(keys: &[ShelfKey]) -> bool
     !keys.is_empty()
 }
 
-/// The step of a copy of the items of a source package between two suites, by their positions, made on the shelves. Where the
-/// first shows none it changes nothing. The items stand on these shelves.
+/// The step of a copy of the items of a source package between two suites, by their positions, made on the shelves. If the
+/// first suite shows no item of it the step changes nothing. The items are on these shelves.
 fn copy_step(
     alloc: Global,
     config: &Config,
@@ -226,7 +226,7 @@ fn copy_step(
     })
 }
 
-/// How many items a step puts, where the source package is shown.
+/// The number of items that a step puts, if the source package is shown.
 fn items_of(is_shown: bool, step: &Step) -> Option<u64>
     ensures { result ≡ if is_shown then Some (length step.now.plan.put) else None }
 {
@@ -237,15 +237,15 @@ fn items_of(is_shown: bool, step: &Step) -> Option<u64>
     }
 }
 
-/// The steps of copies, and what each copy answers.
+/// The steps of copies, and the answer of each copy.
 #[derive(Drop)]
 pub struct Copied {
     pub made: Vec<Step>,
     pub copies: Vec<SourceCopy>,
 }
 
-/// Copies the items of each source package in turn from a suite to another, by their positions, each from the shelves as those
-/// before it left them. The groups are the shelves of the first suite, of which a copy changes none.
+/// Copies the items of each source package in turn from one suite to another, by their positions. Each copy starts from the
+/// shelves that the copies before it left. The groups are the shelves of the first suite, which no copy changes.
 pub fn copied_steps(
     alloc: Global,
     config: &Config,
@@ -263,7 +263,7 @@ pub fn copied_steps(
     ensures copies { IfOk result (λ copied. map copy_of copied.copies.items ≡ copies_on config.now from to shelves.old (map string_bytes sources.now) copied.made.items) }
     ensures shelves { OnOk result (shelves.new ≡ after_copies config.now from to shelves.old (map string_bytes sources.now)) }
     ensures sound { AreSound shelves.old }
-    // What records tell of all that is shown stays so.
+    // If records describe all that is shown, they still do so afterwards.
     ensures told { OnOk result (AreTold config.now.suites shelves.old → AreTold config.now.suites (after_copies config.now from to shelves.old (map string_bytes sources.now))) }
 {
     // For the prover alone: the shelves are sound.
@@ -289,7 +289,7 @@ pub fn copied_steps(
     })
 }
 
-/// A line on a copy: `COUNT SOURCE`, or `refused Q8 SOURCE` where nothing is shown of the source package.
+/// A line on a copy: `COUNT SOURCE`, or `refused Q8 SOURCE` if nothing is shown of the source package.
 fn copy_line(alloc: Global, items: Option<u64>, source: &str) -> Result<String, AllocError>
     ensures { IfOk result (λ line. string_bytes line ≡ line_on_copy items source.now) }
 {

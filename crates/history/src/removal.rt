@@ -10,7 +10,7 @@ use rules::Config;
 use std::alloc::Global;
 use suites::{Item, Plan, ShelfKey, Shelves, plan_remove};
 
-/// The position of a suite, by its codename. Refused where there is no such suite.
+/// The position of a suite, by its codename. It is refused if there is no such suite.
 pub fn place_of(config: &Config, codename: &str) -> Result<usize, Fault>
     ensures suite { IfOk result (λ place. suite_named config.now codename.now ≡ Some place) }
     ensures refused { IfErr result (λ e. suite_fault (suite_named config.now codename.now) ≡ Some e) }
@@ -21,7 +21,7 @@ pub fn place_of(config: &Config, codename: &str) -> Result<usize, Fault>
     Ok(place)
 }
 
-/// Whether the item on the shelf is one of the suite and of the package.
+/// Whether the item on the shelf belongs to the suite and to the package.
 #[tactic(auto, unfolding(suites::specs::Plan::is_removed))]
 fn is_of_package(suite: usize, name: &str, key: &ShelfKey, item: &Item) -> bool
     ensures { result ≡ is_removed suite name.now (key.now, item.now) }
@@ -45,7 +45,8 @@ fn shows_package(shelves: &Shelves, suite: usize, name: &str) -> bool
     false
 }
 
-/// The plan of a removal of a package from a suite, by its position. Refused where it shows nothing of the package.
+/// The plan of a removal of a package from a suite, by its position. It is refused if the suite shows nothing of
+/// the package.
 pub fn removal_plan(
     alloc: Global,
     config: &Config,

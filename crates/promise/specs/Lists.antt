@@ -1,4 +1,4 @@
--- Commands behind a book that a database keeps, and what the contracts say of them: a word for each clause.
+-- Commands after a book that a database keeps, and what the contracts say of them: a name for each clause.
 use Rattle.std.specs.Prelude.{ℕ, List, map, Option, Result, IfOk, IsTrue, Contains, true}
 use Rattle.std.specs.declared.alloc.AllocError.{AllocError}
 use Rattle.std.specs.declared.alloc.Global.{Global}
@@ -23,29 +23,29 @@ use Rattle.history.specs.declared.fault.Fault.{Fault}
 abbrev pub MayFind : {S : Type 0} {g : Ghosts S} → TableKeeper S g → Option Book → Type 0
 MayFind k left = (trees : Trees) × (connection_of k).may_leave trees × KeepsLeft trees left
 
--- Where no two bodies of a book and of the deliveries among these calls have one print, each outcome is the answer of the plain archive
--- behind that book, or want of memory or a failure of the disk; and while the connection is open its tables keep the book that these
--- calls leave. A crash during the list or behind it leaves what that book and the first of the calls leave, none, some or all of them;
--- or that with the whole call that follows them besides.
+-- If no two bodies of a book and of the deliveries among these calls have one print, each outcome is the answer of the plain archive
+-- after that book, or want of memory or a failure of the disk. While the connection is open its tables keep the book that these calls
+-- leave. A crash during or after the list leaves what that book and none, some or all of the calls leave, or also the whole of the next
+-- call.
 abbrev pub GoOn : {S : Type 0} {g : Ghosts S} → Book → List Call → List (Result Reply Fault) → TableKeeper S g → Type 0
 GoOn book calls outcomes k = (bodies : List (List ℕ)) → NoCollision bodies → HasBodies bodies book → ((x : List ℕ) → Contains (bodies_of calls) x → Contains bodies x)
     → IsRun true (opened_with book) calls outcomes (IsTrue (connection_of k).is_open) (table_book k)
     × ((left : Option Book) → MayFind k left → IsLeftAlong (opened_with book) calls outcomes left)
 
 module _ {S : Type 0} {g : Ghosts S} (k : TableKeeper S g) (book : Book) (commands : List Command) where
-  -- the same of commands and their outcomes
+  -- commands with these outcomes go on as `GoOn` says
   abbrev pub GoesOn : Vec Outcome Global → Type 0
   GoesOn outcomes = GoOn book (map call_of commands) (map outcome_of outcomes.items) k
 
-  -- Of a book without any body: where the disk returned what was written, and no two of the delivered bodies have one print, each outcome
-  -- is the answer of the plain archive at its place, or want of memory or a failure of the disk; and while the connection is open its
-  -- tables keep the book that these commands leave.
+  -- This is said of a book without any body. If the disk returned what was written, and no two of the delivered bodies have one print,
+  -- each outcome is the answer of the plain archive at its place, or want of memory or a failure of the disk. While the connection is
+  -- open its tables keep the book that these commands leave.
   abbrev pub RunsFrom : Result (Vec Outcome Global) AllocError → Type 0
   RunsFrom made = HasCleanDisk (connection_of k) → IfOk made (λ outcomes. NoCollision (bodies_of (map call_of commands))
       → IsRun true (opened_with book) (map call_of commands) (map outcome_of outcomes.items) (IsTrue (connection_of k).is_open) (table_book k))
 
-  -- And a crash during the list or behind it leaves what the book and the first of the commands leave, none, some or all of them; or that
-  -- with the whole command that follows them besides.
+  -- A crash during or after the list leaves what the book and none, some or all of the commands leave, or also the whole of the next
+  -- command.
   abbrev pub IsCutAlong : Result (Vec Outcome Global) AllocError → Type 0
   IsCutAlong made = HasCleanDisk (connection_of k) → IfOk made (λ outcomes. NoCollision (bodies_of (map call_of commands))
       → (left : Option Book) → MayFind k left → IsLeftAlong (opened_with book) (map call_of commands) (map outcome_of outcomes.items) left)

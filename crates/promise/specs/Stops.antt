@@ -16,7 +16,8 @@ pub record IsCalled {K : Type 0} (g : Ghosts K) (before after : K) (h : History)
   pub clean : g.is_clean after
   pub crash : LeavesCall g before call after
 
--- The same of another configuration, from a moment on.
+-- The keeper was open and kept what the history leaves when it was given another configuration, from a moment
+-- on, and it says what a crash leaves.
 pub record IsConfigured {K : Type 0} (g : Ghosts K) (before after : K) (h : History) (config : ConfigValue) (moment : ℕ) : Type 0 where
   pub was_clean : g.is_clean before
   pub was_open : g.is_open before

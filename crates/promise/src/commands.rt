@@ -8,8 +8,8 @@ use keep::Keeper;
 use queue::{Archive, Command, Outcome};
 use std::alloc::{AllocError, Global};
 
-/// Makes commands in order over an archive. It gives the archive, and the outcome of each command, or in the place of the outcomes
-/// an `Err` where memory is wanting for them, and then no command was made. All clauses are those of `Archive::drive`.
+/// Makes commands in order over an archive. It gives the archive, and the outcome of each command. If there is no memory for the
+/// outcomes it gives an `Err` instead of them, and no command was made. All clauses are those of `Archive::drive`.
 pub fn make_commands<K: Keeper>(
     alloc: Global,
     archive: Archive<K>,

@@ -18,10 +18,10 @@ use rules::Config;
 use sqlite::{Alter, Connection};
 use std::alloc::{AllocError, Global};
 
-/// Makes an archive of this configuration in a database that has no table, no index and no view, at a moment in seconds since
-/// 1970-01-01 00:00:00 UTC, and then commands in order. It gives the archive and the outcome of each command, or in the place of
-/// the outcomes an `Err` where memory is wanting for them, and then no command was made. A fault is that of `TableKeeper::create`:
-/// it gives the connection back, and what was committed is as before.
+/// Makes an archive of this configuration in a database that has no table, no index and no view, at a moment in seconds since 1970-01-01
+/// 00:00:00 UTC, and then makes commands in order. It gives the archive and the outcome of each command. If there is no memory for the
+/// outcomes it gives an `Err` instead of them, and no command was made. A fault is that of `TableKeeper::create`: it gives the connection
+/// back, and what was committed is as before.
 pub fn drive_created<S: Alter + Drop>(
     alloc: Global,
     connection: Connection<S>,
@@ -31,21 +31,21 @@ pub fn drive_created<S: Alter + Drop>(
 ) -> Result<(Archive<TableKeeper<S>>, Result<Vec<Outcome>, AllocError>), (Connection<S>, KeepFault)>
     requires in_time { moment ≤ LATEST }
     ensures kinds { IfOk result (λ r. IfOk r.1 (AreOfKinds commands.now)) }
-    // Where the disk returned what was written, and no two of the delivered bodies have one print, each outcome is the answer of
-    // the plain archive at its place, or want of memory or a failure of the disk; and while the connection is open its tables keep
-    // the book that these calls leave.
+    // If the disk returned what was written, and no two of the delivered bodies have one print, each outcome is the answer of the plain
+    // archive at its place, or want of memory or a failure of the disk. While the connection is open its tables keep the book that these
+    // calls leave.
     ensures once { IfOk result (λ r. RunsFrom r.0.keeper (fresh_book config moment) commands.now r.1) }
     // Only a counted failure shuts the connection.
     ensures open { IfOk result (λ r. IsShutByFailure r.0.keeper connection) }
     ensures kept { IfOk result (λ r. KeepsItsBook r.0.keeper config) }
-    // Where memory is wanting for the outcomes no command was made.
+    // If there is no memory for the outcomes, no command was made.
     ensures none { IfOk result (λ r. HasCleanDisk (connection_of r.0.keeper) → OnErr r.1 (table_book r.0.keeper ≡ fresh_book config moment)) }
-    // Where the last is done the connection is open.
+    // If the last command is done the connection is open.
     ensures served { IfOk result (λ r. IfOk r.1 (IsOpenBehind ⟦<TableKeeper<S> as Keeper>⟧ r.0.keeper)) }
-    // A crash during the list or behind it leaves what the archive and the first of the commands leave, none, some or all of them; or that
-    // with the whole command that follows them besides.
+    // A crash during or after the list leaves what the archive and none, some or all of the commands leave, or also the whole of the next
+    // command.
     ensures crash { IfOk result (λ r. IsCutAlong r.0.keeper (fresh_book config moment) commands.now r.1) }
-    // What a making is refused for.
+    // The reasons for which a making is refused.
     ensures taken { RefusesTaken S.Store connection result }
     ensures free { RefusesOnlyTaken S.Store connection result }
     ensures undone { GivesBack S.Store connection result }

@@ -1,5 +1,5 @@
-//! The promise over a database: an archive is made in one, or the one that it keeps is opened, also for another configuration, and
-//! commands follow, also behind a stop.
+//! The promise over a database: an archive is made in a database, or the archive that a database keeps is opened, perhaps for
+//! another configuration. Commands follow, also after a stop.
 #![tactic(auto)]
 
 mod commands;

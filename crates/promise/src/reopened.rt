@@ -1,4 +1,4 @@
-//! An archive that a database keeps, and commands in order behind the book that it has.
+//! An archive that a database keeps, and commands in order after the book that it has.
 
 ghost use Rattle.std.specs.Prelude.{◌≡◌, IfOk, OnErr};
 ghost use Rattle.sqlite.specs.Held.{state};
@@ -19,26 +19,26 @@ use queue::{Archive, Command, Outcome, a_stop_leaves_a_part_of_a_list};
 use sqlite::Connection;
 use std::alloc::{AllocError, Global};
 
-/// Opens the archive that a database keeps, and makes commands in order behind the book that it has. It gives the archive and the
-/// outcome of each command, or in the place of the outcomes an `Err` where memory is wanting for them, and then no command was
-/// made. A fault is that of `TableKeeper::open`: it gives the connection back, and what was committed is as before.
+/// Opens the archive that a database keeps, and makes commands in order after the book that it has. It gives the archive and the
+/// outcome of each command. If there is no memory for the outcomes it gives an `Err` instead of them, and no command was made. A
+/// fault is that of `TableKeeper::open`: it gives the connection back, and what was committed is as before.
 pub fn drive_opened<S: InOrder + Drop>(
     alloc: Global,
     connection: Connection<S>,
     commands: &[Command],
 ) -> Result<(Archive<TableKeeper<S>>, Result<Vec<Outcome>, AllocError>), (Connection<S>, KeepFault)>
     ensures kinds { IfOk result (λ r. IfOk r.1 (AreOfKinds commands.now)) }
-    // The database kept a book, behind which the commands go on, also over a crash. Where memory is wanting for the outcomes, no
+    // The database kept a book, after which the commands go on, also over a crash. If there is no memory for the outcomes, no
     // command was made.
     ensures once { IfOk result (λ r. HasCleanDisk (connection_of r.0.keeper) → (b : Book) × KeepsFinished (state S.Store connection).committed (config_in_use r.0.keeper) b
         × IfOk r.1 (GoesOn r.0.keeper b commands.now)
         × OnErr r.1 (table_book r.0.keeper ≡ b)) }
-    // Where the last is done the connection is open.
+    // If the last command is done the connection is open.
     ensures served { IfOk result (λ r. IfOk r.1 (IsOpenBehind ⟦<TableKeeper<S> as Keeper>⟧ r.0.keeper)) }
     // Only a counted failure shuts the connection.
     ensures open { IfOk result (λ r. IsShutByFailure r.0.keeper connection) }
     ensures kept { IfOk result (λ r. KeepsItsBook r.0.keeper (config_in_use r.0.keeper)) }
-    // What an opening is refused for.
+    // The reasons for which an opening is refused.
     ensures refused { RefusesNoArchive S.Store connection result }
     ensures told { SaysWhy S.Store connection result }
     ensures busy { RefusesBusy S.Store connection result }

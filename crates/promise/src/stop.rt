@@ -1,4 +1,4 @@
-//! A stop, the opening behind it, and what follows.
+//! A stop, the opening after it, and what follows.
 
 ghost use Rattle.std.specs.Prelude.{◌≡◌, ◌⊎◌, true, ℕ, List, Contains};
 ghost use Rattle.sqlite.specs.Effect.{Database};
@@ -21,11 +21,11 @@ use keep_tables::TableKeeper;
 use queue::{a_stop_in_a_configuration_leaves_a_book, a_stop_leaves_a_book};
 use sqlite::Alter;
 
-/// Stop, open, go on. A stop during a call of an open keeper, or behind it, leaves a database. Opening it is not refused as no
-/// archive; the book that it keeps is the one that the history leaves, or the one that it leaves with the whole call; and where no
-/// two bodies of that book and of the calls to come have one print, these go on behind the book as behind any history.
+/// Stop, open, go on. A stop during or after a call of an open keeper leaves a database. Opening it is not refused for having no
+/// archive. The book that it keeps is the one that the history leaves, or the one that it leaves with the whole call. If no two
+/// bodies of that book and of the calls to come have one print, these calls go on after the book as after any history.
 pub fn a_stop_goes_on<S: Alter + Drop>()
-    // Where the database that is found lists the tables of an archive, its rows are those of one.
+    // If the database that is found lists the tables of an archive, its rows are those of an archive.
     ensures opens { (before after : TableKeeper S S.Store) (h : History) (call : Call) (found : Database)
         → IsCalled ⟦<TableKeeper<S> as Keeper>⟧ before after h call → (connection_of after).may_leave found.trees
         → IsArchiveSchema found.schema → IsNoArchive found → ⊥ }
@@ -40,9 +40,9 @@ pub fn a_stop_goes_on<S: Alter + Drop>()
     a_stop_leaves_a_book::<TableKeeper<S>>();
 }
 
-/// The same while an open keeper takes another configuration, or behind that. Opening the database is not refused as no archive; the
-/// book that it keeps, of whichever configuration, is the one that the history leaves, or the configured one, and this only where the
-/// configuration keeps all that is shown. Calls go on behind it as behind any (`goes_on` of `a_stop_goes_on`).
+/// A stop while an open keeper takes another configuration, or afterwards, leaves a database. Opening it is not refused for having no
+/// archive. The book that it keeps, of either configuration, is the one that the history leaves, or the configured one; the latter
+/// only if the configuration keeps all that is shown. Calls go on after it as after any history (`goes_on` of `a_stop_goes_on`).
 pub fn a_stop_in_a_configuration_goes_on<S: Alter + Drop>()
     ensures opens { (before after : TableKeeper S S.Store) (h : History) (config : ConfigValue) (moment : ℕ) (found : Database)
         → IsConfigured ⟦<TableKeeper<S> as Keeper>⟧ before after h config moment → (connection_of after).may_leave found.trees

@@ -13,8 +13,7 @@ use keep::{Keeper, PIECE_SIZE};
 use std::alloc::Global;
 use std::io::Read;
 
-/// Reads the next piece into a buffer of its length, and stores it. If the piece does not come, the keeper gives the body
-/// up.
+/// Reads the next piece into a buffer of its length, and stores it. If the piece does not come, the body is abandoned.
 pub fn store_piece<K: Keeper, R: Read>(
     alloc: Global,
     keeper: &mut K,
