@@ -11,7 +11,7 @@ use Rattle.desk.specs.Reply.{Message, line}
 use Rattle.desk.specs.Want.{Want, delivery, queue_run, copying, fetching, waiting_list, cleaning, verdict_list, removing, promoting}
 use Rattle.desk.specs.declared.head.Refusal.TheVariants as refusal
 
--- The call that is wanted, with the body that came, at the moment that is handed in. A promotion is of all that the suite shows.
+-- The call that is wanted, with the body that came, at the moment that is handed in. A promotion copies all that the suite shows.
 abbrev pub call_wanted : Want → List ℕ → ℕ → Call
 call_wanted (delivery name length) body moment = Delivery name body moment
 call_wanted queue_run body moment = QueueRun moment
@@ -38,7 +38,8 @@ done_message is_pool (Copies copies) = text_message 200 (flat_map line (map copy
 done_message is_pool (Found None) = refusal_message refusal.NotFound
 done_message is_pool (Found (Some file)) = record { status = 200; allow = None; is_binary = is_pool; body = file }
 
--- the reply to what the archive refused: for want of memory or a fault of its keeper that it cannot be stored, else the fault's text
+-- the reply to a refusal of the archive: for want of memory or a fault of its keeper it says that this cannot be stored, else it has
+-- the text of the fault
 abbrev pub fault_message : Fault → Message
 fault_message fault.OutOfMemory = refusal_message refusal.OutOfMemory
 fault_message (fault.Keeper cause) = refusal_message refusal.OutOfMemory
@@ -49,7 +50,7 @@ abbrev pub outcome_message : Want → Result Reply Fault → Message
 outcome_message want (Ok reply) = done_message (is_pool_file want) reply
 outcome_message want (Err cause) = fault_message cause
 
--- The reply to a delivery that was refused: a body that ended early is a bad request, and where the reader failed there is none.
+-- The reply to a delivery that was refused. A body that ended early is a bad request, and if the reader failed there is no reply.
 abbrev pub reception_message : Fault → Option Message
 reception_message fault.ReaderFailed = None
 reception_message fault.Ended = Some (refusal_message refusal.BadRequest)

@@ -37,26 +37,26 @@ module _ {R W : Type 0} (remaining : R → Option (List ℕ)) (contents : W → 
     end = new.end;
   }
 
-  -- connections before and after, each with itself
+  -- a visit for each connection, as it was before and after
   abbrev pub visits : List (Connection R W) → List (Connection R W) → List Visit
   visits [] news = []
   visits (old ∷ olds) [] = []
   visits (old ∷ olds) (new ∷ news) = visit old new ∷ visits olds news
 
--- The connection was answered at a moment from the first of these to the last, and comes from outside: which bytes it gives is known of
--- none before they are read.
+-- The connection was answered at a moment from the first of these to the last. It comes from outside: none of its bytes is known before
+-- it is read.
 pub record IsClientsWithin (first last : ℕ) (v : Visit) : Type 0 where
   pub from_first : first ≤ v.moment
   pub to_last : v.moment ≤ last
   pub foreign : v.gave ≡ None
 
--- The connection was answered, and has ended so.
+-- The connection was answered, and ended with this result.
 pub record IsServed {K : Type 0} (g : Ghosts K) (v : Visit) (before after : K) : Type 0 where
   pub result : Result Served DeskFault
   pub end_is : v.end ≡ Some result
   pub answered : IsAnswered g v.gave v.gives before after v.held v.holds v.moment result
 
--- what a connection asked of the archive, where the archive heard of it
+-- what a connection asked of the archive, if the archive was called
 abbrev pub calls_of_course : Course → List Call
 calls_of_course (Called want body moment outcome) = call_wanted want body moment ∷ []
 calls_of_course course = []
@@ -76,7 +76,7 @@ abbrev pub IsAt : ℕ → Course → Type 0
 IsAt moment (Called want body at outcome) = at ≡ moment
 IsAt moment course = ⊤
 
--- The connection came to this: the part of its bytes that the request uses was read, and the reply was written.
+-- What came of the connection: the part of its bytes that the request uses was read, and the reply was written.
 pub record Went (v : Visit) (course : Course) : Type 0 where
   pub read : HasRead v.gave v.gives course
   pub at : IsAt v.moment course
@@ -91,28 +91,28 @@ AllWent (v ∷ vs) (course ∷ courses) = Went v course × AllWent vs courses
 AllWent [] (course ∷ courses) = ⊥
 AllWent (v ∷ vs) [] = ⊥
 
--- the history with what the connection asked of the archive behind it
+-- the history after what the connection asked of the archive
 abbrev pub behind : History → Course → History
 behind h (Called want body moment outcome) = followed h (call_wanted want body moment) outcome
 behind h course = h
 
--- A crash left the book that the history leaves with the whole call of this connection behind it; of one that was refused, by a body that
--- the reader gave; and where none is told, the delivery of a body that may have reached the archive.
+-- A crash left the book that the history leaves after the whole call of this connection. If the call was refused, it is the call by a
+-- body that the reader gave. If no call is known, it is the delivery of a body that may have reached the archive.
 abbrev pub IsLeftIn : History → Visit → Course → Option Book → Type 0
 IsLeftIn h v (Called want body at (Ok reply)) left = left ≡ Some (book_of (followed h (call_wanted want body at) (answer h (call_wanted want body at))))
 IsLeftIn h v (Called want body at (Err fault)) left = IsLeftBy h v.gave v.gives want at left
 IsLeftIn h v course left = MayHaveCome v.gave course × ((want : Want) × IsLeftBy h v.gave v.gives want v.moment left)
 
--- What was left is the book that the history leaves with the calls of the first of these connections behind it, of none, some or all of
--- them; or that with the whole call of the next.
+-- What was left is the book that the history leaves after the calls of none, some or all of these connections, or also after the whole
+-- call of the next.
 abbrev pub IsLeftAmong : History → List Visit → List Course → Option Book → Type 0
 IsLeftAmong h (v ∷ vs) (course ∷ courses) left = (left ≡ Some (book_of h)) ⊎ (IsLeftIn h v course left ⊎ IsLeftAmong (behind h course) vs courses left)
 IsLeftAmong h vs courses left = left ≡ Some (book_of h)
 
--- The connections were served in order. Each was answered what its course says; and where a history was kept before that
--- is faithful to what they asked, the outcomes are the answers of its plain archive, each at its place, and what the longer
--- history leaves is kept then. A crash during these connections, between two of them or behind them leaves what it would have left
--- before, or what the history leaves with the calls of the first of them behind it, and perhaps the next of these.
+-- The connections were served in order, and each got the answer that its course says. If a history was kept before, and is faithful to
+-- what they asked, the outcomes are the answers of its plain archive, each at its place, and what the longer history leaves is then kept.
+-- A crash during these connections, between two of them or after them leaves what it would have left before, or what the history leaves
+-- after the calls of the first of them, and perhaps also of the next.
 pub record AreServed {K : Type 0} (g : Ghosts K) (before after : K) (vs : List Visit) : Type 0 where
   pub courses : List Course
   pub went : AllWent vs courses
@@ -121,16 +121,15 @@ pub record AreServed {K : Type 0} (g : Ghosts K) (before after : K) (vs : List V
   pub crash : (h : History) → IsKept (g.is_open before) (g.book before) h → IsFaithful h (calls_in courses) → g.is_clean after
       → (left : Option Book) → g.may_leave after left → g.may_leave before left ⊎ IsLeftAmong h vs courses left
 
--- a connection, and one at the same moment or a later one
+-- the second connection is at the moment of the first or later
 abbrev pub IsNoLater : Visit → Visit → Type 0
 IsNoLater v w = v.moment ≤ w.moment
 
--- The moments of connections in this order never fall: none is before that of an earlier connection.
+-- The moments of connections in this order never fall: no connection is before an earlier one.
 abbrev pub NeverFall : List Visit → Type 0
 NeverFall vs = AllPairs IsNoLater vs
 
--- At most so many connections were served, each of which is as this says, at moments that never fall, and what else was asked of the
--- archive was read.
+-- At most `most` connections were served, at moments that never fall, and each of them fits. All other uses of the archive were reads.
 pub record HasServed {K : Type 0} (g : Ghosts K) (most : ℕ) (Fits : Visit → Type 0) (before after : K) : Type 0 where
   pub visits : List Visit
   pub number : length visits ≤ most

@@ -7,7 +7,7 @@ abbrev pub desk_fault_number : DeskFault → ℕ
 desk_fault_number ReaderFailed = 1
 desk_fault_number WriterFailed = 2
 
--- its letter and its number
+-- a fault's letter and its number
 abbrev pub desk_fault_text : DeskFault → List ℕ
 desk_fault_text ReaderFailed = codes "H1"
 desk_fault_text WriterFailed = codes "H2"

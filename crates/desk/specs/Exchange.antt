@@ -23,9 +23,9 @@ use Rattle.desk.specs.declared.exchange.Served.TheVariants.{Nothing, Status}
 use Rattle.desk.specs.declared.head.Refusal.{Refusal}
 use Rattle.desk.specs.declared.head.Refusal.TheVariants.{BadRequest, OutOfMemory}
 
--- What a connection came to. Of the first four no command was made, and the archive is as before: no byte came; the bytes
--- were refused, or ended early; memory was short, or the keeper failed while a body came; the reader failed. The last called
--- the archive, at a moment, and has its outcome.
+-- What came of a connection. In the first four courses no command was made, and the archive is as before: no byte came; the bytes were
+-- refused, or ended early; memory was short, or the keeper failed while a body came; the reader failed. In the last the archive was
+-- called, at a moment, with an outcome.
 pub data Course : Type 0 where
   Silent : Course
   TurnedAway : (refusal : Refusal) → Course
@@ -33,8 +33,7 @@ pub data Course : Type 0 where
   Broken : Course
   Called : (want : Want) → (body : List ℕ) → (moment : ℕ) → (outcome : Result Reply Fault) → Course
 
--- What was read: the part that the request uses, and no more; a beginning of that part where memory or the reader was
--- wanting.
+-- What was read: the part that the request uses, and no more. If memory was short or the reader failed, it is a beginning of that part.
 abbrev pub HasRead : Option (List ℕ) → Option (List ℕ) → Course → Type 0
 HasRead old new Silent = Received old new nothing
 HasRead old new (TurnedAway refusal) = Received old new (refused refusal)
@@ -42,7 +41,7 @@ HasRead old new Short = ReadsBeginning old new
 HasRead old new Broken = ReadsBeginning old new
 HasRead old new (Called want body moment outcome) = Received old new (asks want body)
 
--- the reply, where there is one
+-- the reply, if there is one
 abbrev pub reply_of : Course → Option Message
 reply_of Silent = None
 reply_of (TurnedAway refusal) = Some (refusal_message refusal)
@@ -63,14 +62,14 @@ pub record IsCutOff (held holds : Option (List ℕ)) (course : Course) : Type 0 
   pub reply : reply_of course ≡ Some message
   pub written : AppendsBeginning held holds (message_text message)
 
--- what was written, by what is answered to the caller
+-- what was written, for each answer to the caller
 abbrev pub HasWritten : Option (List ℕ) → Option (List ℕ) → Course → Result Served DeskFault → Type 0
 HasWritten held holds course (Ok Nothing) = (course ≡ Silent) × Keeps held holds
 HasWritten held holds course (Ok (Status status)) = IsReplied held holds course status
 HasWritten held holds course (Err ReaderFailed) = (course ≡ Broken) × Keeps held holds
 HasWritten held holds course (Err WriterFailed) = IsCutOff held holds course
 
--- What was read behind the head of what is wanted: its body, or a part of it.
+-- What was read after the head of what is wanted: its body, or a part of it.
 abbrev pub HasReadBehind : Option (List ℕ) → Option (List ℕ) → Want → Course → Type 0
 HasReadBehind old new want Short = ReadsUpTo old new (body_length want)
 HasReadBehind old new want Broken = ReadsUpTo old new (body_length want)
@@ -78,21 +77,21 @@ HasReadBehind old new want (TurnedAway BadRequest) = (front : List ℕ) × Consu
 HasReadBehind old new want (Called other body moment outcome) = (other ≡ want) × (length body ≡ body_length want) × Consumes old new body
 HasReadBehind old new want course = ⊥
 
--- Whether a body may have reached the archive where no call is told. A reader that tells its bytes, and fails or ends early, has not
--- given all of one.
+-- Whether a body may have reached the archive although no call is known. A reader whose bytes are known, and which fails or ends early,
+-- has not given a whole body.
 abbrev pub MayHaveCome : Option (List ℕ) → Course → Type 0
 MayHaveCome gave Short = ⊤
 MayHaveCome gave Broken = gave ≡ None
 MayHaveCome gave (TurnedAway BadRequest) = gave ≡ None
 MayHaveCome gave course = ⊥
 
--- A crash left the book that the history leaves with what is wanted behind it, by a body that the reader gave.
+-- A crash left the book that the history leaves after the call that is wanted, by a body that the reader gave.
 pub record IsLeftBy (h : History) (gave gives : Option (List ℕ)) (want : Want) (moment : ℕ) (left : Option Book) : Type 0 where
   pub body : List ℕ
   pub read : Received gave gives (asks want body)
   pub stands : IsFaithful h (call_wanted want body moment ∷ []) → left ≡ Some (book_of (followed h (call_wanted want body moment) (answer h (call_wanted want body moment))))
 
--- the same, of a body behind its head
+-- A crash left the book that the history leaves after the call that is wanted, by a body that the reader gave after the head.
 pub record IsLeftBehind (h : History) (gave gives : Option (List ℕ)) (want : Want) (moment : ℕ) (left : Option Book) : Type 0 where
   pub body : List ℕ
   pub size : length body ≡ body_length want
@@ -100,27 +99,27 @@ pub record IsLeftBehind (h : History) (gave gives : Option (List ℕ)) (want : W
   pub stands : IsFaithful h (call_wanted want body moment ∷ []) → left ≡ Some (book_of (followed h (call_wanted want body moment) (answer h (call_wanted want body moment))))
 
 module _ {K : Type 0} (g : Ghosts K) where
-  -- A crash during these calls leaves what it would have left before, what the history left, or what this says.
+  -- A crash during these calls leaves what it would have left before, what the history left, or what `Else` says.
   abbrev pub LeavesOr : K → K → List Call → (History → Option Book → Type 0) → Type 0
   LeavesOr before after calls Else = (h : History) → IsKept (g.is_open before) (g.book before) h → IsFaithful h calls → g.is_clean after
       → (left : Option Book) → g.may_leave after left → g.may_leave before left ⊎ ((left ≡ Some (book_of h)) ⊎ Else h left)
 
-  -- What a crash leaves, during the connection or behind it. Of a call that was done: what it leaves of a call. Of one that was refused
-  -- the same, by a body that the reader gave. And where no call is told, what it would have left before, or what the history left; and of
-  -- a body that may have reached the archive perhaps all that its delivery does.
+  -- What a crash during or after the connection leaves. If the call was done, it is what a crash leaves of a call. If the call was
+  -- refused, it is what a crash leaves of the call by a body that the reader gave. If no call is known, it is what it would have left
+  -- before, or what the history left; and if a body may have reached the archive, perhaps all that its delivery does.
   abbrev pub LeavesCourse : (gave gives : Option (List ℕ)) → ℕ → K → K → Course → Type 0
   LeavesCourse gave gives moment before after (Called want body at (Ok reply)) = LeavesCall g before (call_wanted want body moment) after
   LeavesCourse gave gives moment before after (Called want body at (Err fault)) = LeavesOr before after (call_wanted want body moment ∷ []) (λ h left. IsLeftBy h gave gives want moment left)
   LeavesCourse gave gives moment before after course = LeavesOr before after [] (λ h left. MayHaveCome gave course × ((want : Want) × IsLeftBy h gave gives want moment left))
 
-  -- the same, behind a head
+  -- What a crash leaves during or after what follows a head, as `LeavesCourse` says.
   abbrev pub LeavesBehind : (gave gives : Option (List ℕ)) → Want → ℕ → K → K → Course → Type 0
   LeavesBehind gave gives want moment before after (Called other body at (Ok reply)) = LeavesCall g before (call_wanted other body moment) after
   LeavesBehind gave gives want moment before after (Called other body at (Err fault)) = LeavesOr before after (call_wanted other body moment ∷ []) (λ h left. IsLeftBehind h gave gives other moment left)
   LeavesBehind gave gives want moment before after course = LeavesOr before after [] (λ h left. MayHaveCome gave course × IsLeftBehind h gave gives want moment left)
 
-  -- Nothing happened where no byte came. What was kept is kept still, unless the archive was called at the moment that is
-  -- handed in.
+  -- If no byte came nothing happened. If the archive was called, the call was made at the moment that is handed in. Else what was kept is
+  -- still kept.
   abbrev pub Leaves : ℕ → K → K → Course → Type 0
   Leaves moment before after Silent = after ≡ before
   Leaves moment before after (Called want body at outcome) = (at ≡ moment) × Does g before (call_wanted want body moment) outcome after
@@ -134,7 +133,7 @@ module _ {K : Type 0} (g : Ghosts K) where
     pub crash : LeavesCourse old new moment before after course
     pub reply : reply_of course ≡ Some message
 
-  -- the same, where no byte may have come
+  -- A request was read and carried out, and the reply is at hand; or no byte came, and there is no reply.
   abbrev pub IsHandled : Option (List ℕ) → Option (List ℕ) → K → K → ℕ → Option Message → Type 0
   IsHandled old new before after moment None = Received old new nothing × (after ≡ before)
   IsHandled old new before after moment (Some message) = IsHandledWith old new before after moment message
@@ -146,7 +145,7 @@ module _ {K : Type 0} (g : Ghosts K) where
     pub crash : LeavesCall g before (call_wanted want body moment) after
     pub message_is : message ≡ outcome_message want outcome
 
-  -- What a head asks for was carried out, or why it was not: what was read behind the head, and the reply, where there is one.
+  -- What a head asks for was carried out, or refused: what was read after the head, and the reply, if there is one.
   pub record IsCarriedOut (old new : Option (List ℕ)) (before after : K) (want : Want) (moment : ℕ) (message : Option Message) : Type 0 where
     pub course : Course
     pub read : HasReadBehind old new want course
@@ -154,8 +153,8 @@ module _ {K : Type 0} (g : Ghosts K) where
     pub crash : LeavesBehind old new want moment before after course
     pub reply : reply_of course ≡ message
 
-  -- One connection was answered: a reader's bytes before and after, the archive before and after, a writer's bytes before and
-  -- after, the moment and what is answered to the caller.
+  -- One connection was answered: a reader's bytes before and after, the archive before and after, a writer's bytes before and after, the
+  -- moment and the answer to the caller.
   pub record IsAnswered (old new : Option (List ℕ)) (before after : K) (held holds : Option (List ℕ)) (moment : ℕ)
       (result : Result Served DeskFault) : Type 0 where
     pub course : Course

@@ -14,7 +14,7 @@ pub record ReadsBeginning (old new : Option (List ℕ)) : Type 0 where
   pub read : Consumes old new front
   pub used : IsPartOfUsed front
 
--- so many bytes were read, or fewer
+-- at most `most` bytes were read
 pub record ReadsUpTo (old new : Option (List ℕ)) (most : ℕ) : Type 0 where
   pub front : List ℕ
   pub read : Consumes old new front
@@ -31,7 +31,7 @@ IsRefused old new PayloadTooLarge = Received old new (refused PayloadTooLarge)
 IsRefused old new HeadTooLarge = Received old new (refused HeadTooLarge)
 IsRefused old new NotImplemented = Received old new (refused NotImplemented)
 
--- A head was read, and it asks for this. No byte behind it was read.
+-- A head was read, and it asks for this. No byte after it was read.
 pub record HasHead (old new : Option (List ℕ)) (want : Want) : Type 0 where
   pub head : List ℕ
   pub read : Consumes old new head

@@ -25,7 +25,7 @@ is_byte b = nat_lt b 256
 abbrev pub is_slash : ℕ → Bool
 is_slash b = b == 47
 
--- a part of a path between slashes: one byte or more, none of them a slash
+-- a part of a path between slashes: one byte or more, without a slash
 pub record IsPart (part : List ℕ) : Type 0 where
   pub some : 0 < length part
   pub bytes : list_all is_byte part ≡ true

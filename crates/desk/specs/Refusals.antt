@@ -14,7 +14,7 @@ refusal_status HeadTooLarge = 431
 refusal_status NotImplemented = 501
 refusal_status OutOfMemory = 507
 
--- the method that the reply's Allow names: the one of the route, where another was used
+-- the method that the reply's Allow names: that of the route, if another was used
 abbrev pub allowed : Refusal → Option (List ℕ)
 allowed BadRequest = None
 allowed NotFound = None

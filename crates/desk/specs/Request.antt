@@ -22,7 +22,7 @@ want_of w.Verdicts = verdict_list
 want_of (w.Remove suite name) = removing (string_bytes suite) (string_bytes name)
 want_of (w.Promote from to) = promoting (string_bytes from) (string_bytes to)
 
--- the same beside its route
+-- a route with its `Wanted`, without where that lies in memory
 abbrev pub found_want : Route × Wanted → Route × Want
 found_want (route, wanted) = (route, want_of wanted)
 
@@ -30,7 +30,7 @@ found_want (route, wanted) = (route, want_of wanted)
 abbrev pub IsHead : List ℕ → RequestHead → Type 0
 IsHead text h = ReadsRequest text h [] × (length h.fields ≤ 32)
 
--- what a head's text asks for: what its checks give, or a refusal where it is no head
+-- what the text of a head asks for: what its checks give, or a refusal if it is no head
 abbrev pub HeadAsks : List ℕ → Result Want Refusal → Type 0
 HeadAsks text asked =
     ((h : RequestHead) × IsHead text h × (asked ≡ wanted h))
@@ -121,7 +121,7 @@ pub record IsWhole (bytes used : List ℕ) (want : Want) (body : List ℕ) : Typ
   pub asked : HeadAsks head (Ok want)
   pub size : length body ≡ body_length want
 
--- of the bytes that a connection gives, this part is used, and it asks for this
+-- this part of the bytes that a connection gives is used, and it asks for this
 abbrev pub IsRequest : List ℕ → List ℕ → Asked → Type 0
 IsRequest bytes used nothing = (bytes ≡ []) × (used ≡ [])
 IsRequest bytes used (refused e) = IsCutHead bytes used e ⊎ (IsLongHead bytes used e ⊎ (IsRefusedHead bytes used e ⊎ IsCutBody bytes used e))
@@ -131,7 +131,7 @@ IsRequest bytes used (asks want body) = IsWhole bytes used want body
 abbrev pub IsPartOfUsed : List ℕ → Type 0
 IsPartOfUsed front = (bytes used : List ℕ) (asked : Asked) → IsBeginning front bytes → IsRequest bytes used asked → IsBeginning front used
 
--- the reader gives these bytes in all, where it tells its bytes
+-- the reader gives these bytes in all, if its bytes are known
 abbrev pub IsGiven : Option (List ℕ) → List ℕ → Type 0
 IsGiven None bytes = ⊤
 IsGiven (Some xs) bytes = xs ≡ bytes

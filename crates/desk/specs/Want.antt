@@ -33,7 +33,7 @@ pub data Want : Type 0 where
   promoting : (from to : List ℕ) → Want
 
 infixl 10 ◌>>=◌
--- what comes first may refuse, and else the rest goes on
+-- the first result may refuse, else the rest goes on
 abbrev pub ◌>>=◌ : {A B : Type 0} → Result A Refusal → (A → Result B Refusal) → Result B Refusal
 (Ok x) >>= f = f x
 (Err e) >>= f = Err e
@@ -145,7 +145,7 @@ length_value text =
     if nat_le 1 (length text) && (nat_le (length text) 10 && list_all is_ascii_digit text)
     then Ok (digits_value 10 text) else Err BadRequest
 
--- of the values of Content-Length there is at most one, and it is a number
+-- there is at most one value of Content-Length, and it is a number
 abbrev pub one_length : List (List ℕ) → Result (Option ℕ) Refusal
 one_length [] = Ok None
 one_length (value ∷ []) = do
@@ -156,7 +156,7 @@ one_length (value ∷ more ∷ rest) = Err BadRequest
 abbrev pub content_length : List (List ℕ × List ℕ) → Result (Option ℕ) Refusal
 content_length fields = one_length (map (λ f. f.1) (filter (is_named (codes "content-length")) fields))
 
--- the command with its body's length, which only a delivery may have
+-- the command with the length of its body, which only a delivery may have
 abbrev pub with_length : Want → Option ℕ → Result Want Refusal
 with_length (delivery name n) None = Err LengthRequired
 with_length (delivery name n) (Some length) = if nat_le length most_size then Ok (delivery name length) else Err PayloadTooLarge
@@ -171,7 +171,7 @@ with_length (promoting a b) length = if unwrap_or length 0 == 0 then Ok (promoti
 
 -- ---- the head
 
--- a route, or there is none
+-- the route that was found, or the refusal if there is none
 abbrev pub found_route : Option (RouteOf Route) → Result (RouteOf Route) Refusal
 found_route None = Err NotFound
 found_route (Some route) = Ok route
@@ -189,11 +189,11 @@ beside route (Err e) = Err e
 abbrev pub command_at : List ℕ → RouteOf Route → Result (Route × Want) Refusal
 command_at path route = beside route.value (wanted_at route.value (parameters route path) path)
 
--- what a path asks for: its route, and the command of that
+-- what a path asks for: its route, and the command of that route
 abbrev pub asked_at : List ℕ → Result (Route × Want) Refusal
 asked_at path = route_for path >>= command_at path
 
--- what the parts of a head ask for: the checks in their order, the first that fails deciding
+-- what the parts of a head ask for: the checks are made in their order, and the first that fails decides
 unfoldable pub wanted_by : List ℕ → List ℕ → List (List ℕ × List ℕ) → Result Want Refusal
 wanted_by method target fields = do
   _ ← pass (is_path target) BadRequest

@@ -1,7 +1,7 @@
 //! Many connections, one after the other.
 //!
-//! Faithfulness, that no two bodies have one print, is asked of the calls that reached the archive, which are fewer than all that were
-//! asked for.
+//! Faithfulness means that no two bodies have one print. It is required only of the calls that reached the archive, which are fewer
+//! than all that were asked for.
 ghost use Rattle.std.specs.Prelude.{◌≡◌};
 ghost use Rattle.desk.specs.Connections.{AreServed, IsServed, visit, visits};
 ghost use Rattle.queue.specs.Steps.{Lasts};

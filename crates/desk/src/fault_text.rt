@@ -1,4 +1,4 @@
-//! The text of a fault in parts that stand in the program, so that it takes no memory.
+//! The text of a fault, in parts that are in the program, so that it takes no memory.
 
 ghost use Rattle.std.specs.Prelude.{◌≡◌, ◌++◌};
 ghost use Rattle.desk.specs.FaultText.{line_part, text_of};
@@ -12,7 +12,7 @@ use records::RecordFault;
 use sums::ListFault;
 use vers::VersionFault;
 
-/// The text of a fault: three parts, one behind the other, and the number of a line behind them where the fault has one.
+/// The text of a fault: three parts, one after the other, and after them the number of a line if the fault has one.
 #[derive(Clone, Copy, Debug, PartialEq, Eq)]
 pub struct FaultText {
     pub first: &'static str,
@@ -35,7 +35,7 @@ impl FaultText {
     }
 }
 
-/// The text of a record's fault behind these letters.
+/// The text of a record's fault after these letters.
 pub fn record_text(first: &'static str, fault: RecordFault) -> FaultText
     ensures { text_of result ≡ first.now ++ record_fault_text fault }
 {

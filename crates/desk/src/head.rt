@@ -1,7 +1,7 @@
 //! The head of a request, and what it asks for.
 //!
-//! A line of a head may end in LF alone, and empty lines may come first, as httparse has it. Only CR LF CR LF ends a head: one that
-//! httparse finds complete earlier is 400.
+//! As in httparse, a line of a head may end in LF alone, and empty lines may come first. Only CR LF CR LF ends a head: a head that
+//! httparse finds complete earlier is answered 400.
 ghost use Rattle.std.specs.Prelude.{◌≡◌, ◌≤◌, true, false, ℕ, List, [], length, map, drop, All, unwrap_or, IfOk, IfErr, OnErr, MatchResult, string_bytes};
 ghost use Rattle.std.specs.List.{list_any, list_all};
 ghost use Rattle.std.specs.Char.{is_ascii_digit};
@@ -56,7 +56,7 @@ impl Refusal {
 }
 
 impl Refusal {
-    /// The method that the route wants, where that is why.
+    /// The method that the route wants, if the request used another.
     pub fn into_allowed(self) -> Option<Method>
         ensures { result ≡ allowed self }
     {
@@ -116,8 +116,8 @@ pub enum Wanted {
     },
 }
 
-/// Reads a whole head: its target is checked, then its Transfer-Encoding, its route, the parameters of that, its method
-/// and its Content-Length, and the first of these that fails is why it is refused.
+/// Reads a whole head. It checks the target, then the Transfer-Encoding, the route, the parameters of the route, the method and the
+/// Content-Length. The first check that fails says why the head is refused.
 pub fn read_wanted(alloc: Global, desk: &Desk, head: &[u8]) -> Result<Wanted, Refusal>
     ensures { Gives want_of result (HeadAsks head.now) }
 {
@@ -133,7 +133,7 @@ pub fn read_wanted(alloc: Global, desk: &Desk, head: &[u8]) -> Result<Wanted, Re
     with_length(wanted, content_length(head, fields)?)
 }
 
-/// The head's parts, where all of it is one head with room for its fields.
+/// The head's parts, if all of it is one head with room for its fields.
 fn parse_whole(head: &[u8], headers: &mut [HeaderSpan]) -> Result<RequestSpans, Refusal>
     requires { length headers.old ≡ MAX_FIELDS }
     ensures within { IfOk result (IsRequestWithin head.now headers.new) }
@@ -154,7 +154,7 @@ fn parse_whole(head: &[u8], headers: &mut [HeaderSpan]) -> Result<RequestSpans, 
     }
 }
 
-/// The target, where it is a path and no more.
+/// The target, if it is a path and no more.
 fn target_of(head: &[u8], path: Span) -> Result<&str, Refusal>
     requires ordered { path.start ≤ path.end }
     requires within { path.end ≤ length head.now }
@@ -171,7 +171,7 @@ fn target_of(head: &[u8], path: Span) -> Result<&str, Refusal>
     Ok(target)
 }
 
-/// Whether a target is a path with no query or fragment behind it.
+/// Whether a target is a path with no query or fragment after it.
 fn is_path(target: &str) -> bool
     ensures { result ≡ is_path target.now }
 {
@@ -240,7 +240,7 @@ fn is_digits(text: &[u8]) -> bool
     text.iter().all(|c| c.is_ascii_digit())
 }
 
-/// What a path asks for: its route, and the command of that.
+/// What a path asks for: its route, and the command of that route.
 fn find_wanted(alloc: Global, desk: &Desk, target: &str) -> Result<(Route, Wanted), Refusal>
     requires { is_path target.now ≡ true }
     ensures { Gives found_want result (λ r. r ≡ asked_at target.now) }
@@ -309,7 +309,7 @@ fn decode_param(alloc: Global, params: &Params<'_, '_>, name: &str) -> Result<St
     decode(alloc, params.get(name).unwrap_or(""))
 }
 
-/// The text behind a path's escapes.
+/// The text of a path with its escapes undone.
 fn decode(alloc: Global, escaped: &str) -> Result<String, Refusal>
     ensures { Gives string_bytes result (λ r. r ≡ decoded escaped.now) }
 {
@@ -321,7 +321,7 @@ fn decode(alloc: Global, escaped: &str) -> Result<String, Refusal>
     }
 }
 
-/// Nothing, where the method is the one that a route wants.
+/// Succeeds if the method is the one that a route wants.
 fn check_method(method: &[u8], wanted: Method) -> Result<(), Refusal>
     ensures { result ≡ pass (bytes_eq method.now wanted) (Refusal.MethodNotAllowed wanted) }
 {

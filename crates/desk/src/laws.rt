@@ -25,8 +25,8 @@ pub fn one_request()
     ensures { (bytes used more : List ℕ) (asked other : Asked) → IsRequest bytes used asked → IsRequest bytes more other → (more ≡ used) × (other ≡ asked) }
 {}
 
-/// What each path asks for by which something is changed: with a name of one byte or more without a slash, `/incoming/NAME` is a
-/// delivery of that name, its escapes undone, and so on. Nothing is done: the law is the contract.
+/// What a path asks for that changes something: with a name of one byte or more without a slash, `/incoming/NAME` is a delivery of
+/// that name, its escapes undone, and so on. Nothing is done: the law is the contract.
 pub fn paths_that_change()
     ensures incoming { (name : List ℕ) → IsPart name → asked_at (codes "/incoming/" ++ name) ≡ beside Deliver (wanted_of (to_incoming name)) }
     ensures run { asked_at (codes "/queue/run") ≡ beside Run (wanted_of to_run) }
@@ -39,8 +39,8 @@ pub fn paths_that_change()
     ensures clean { asked_at (codes "/queue/clean") ≡ beside Clean (wanted_of to_clean) }
 {}
 
-/// What each path asks for by which nothing is changed: `/queue` is the uploads that wait, `/dists/REST` the index text at a path of
-/// one byte or more, its escapes undone, and so on. Nothing is done: the law is the contract.
+/// What a path asks for that changes nothing: `/queue` is the uploads that wait, `/dists/REST` the index text at a path of one byte
+/// or more, its escapes undone, and so on. Nothing is done: the law is the contract.
 pub fn paths_that_ask()
     ensures waiting { asked_at (codes "/queue") ≡ beside Waiting (wanted_of to_queue) }
     ensures verdicts { asked_at (codes "/verdicts") ≡ beside Verdicts (wanted_of to_verdicts) }
@@ -53,18 +53,18 @@ pub fn other_paths()
     ensures { (path : List ℕ) → list_all is_byte path ≡ true → ((place : Place) → IsPlace place → path ≢ print_path place) → asked_at path ≡ Err NotFound }
 {}
 
-/// Connections that are answered in turns are answered as one list: what `attend` says of a first list, and of another behind
-/// it, it says of the whole. Reads of the archive in between change nothing. So a server that hands over one connection at a
-/// time answers all of them as `attend` answers the list of them. Nothing is done: the law is the contract.
+/// Connections that are answered in turns are answered as one list: what `attend` says of a first list and of another after it, it
+/// says of the whole. Reads of the archive in between change nothing. So a server that hands over one connection at a time answers
+/// all of them as `attend` answers the list of them. Nothing is done: the law is the contract.
 pub fn turns_are_one_list<K: Keeper>()
     ensures turns { (before mid after : K) (first others : List Visit) → Lasts K.Keeper mid after
         → AreServed K.Keeper before mid first → AreServed K.Keeper mid after others → AreServed K.Keeper before after (first ++ others) }
     ensures between { (before after : K) → Reads K.Keeper before after → AreServed K.Keeper before after [] }
 {}
 
-/// The first connection finds the book that the keeper has, as one that was opened has what the database kept. Where that book
-/// has its files, and no two bodies of it and of what comes have one print, the answers are those of the plain archive behind
-/// it. Nothing is done: the law is the contract.
+/// The first connection finds the book that the keeper has; a keeper that was opened has what the database kept. If that book has
+/// its files, and no two bodies of it and of what comes have one print, the answers are those of the plain archive after that book.
+/// Nothing is done: the law is the contract.
 pub fn the_first_finds_the_book<K: Keeper>()
     ensures { (before after : K) (visits : List Visit) (served : AreServed K.Keeper before after visits) (bodies : List (List ℕ))
         → HasItsFiles (K.book before) → NoCollision bodies → HasBodies bodies (K.book before)
@@ -72,17 +72,17 @@ pub fn the_first_finds_the_book<K: Keeper>()
         → IsRun K.may_fail (opened_with (K.book before)) (calls_in served.courses) (outcomes_in served.courses) (K.is_open after) (K.book after) }
 {}
 
-/// A stop while connections of an open keeper are served, between two of them or behind them, leaves the book that the history
-/// leaves with the calls of the first of them behind it, none, some or all; or that with the next of them besides. And it does leave
-/// one. Nothing is done: the law is the contract.
+/// A stop while connections of an open keeper are served, between two of them or after them, leaves the book that the history leaves
+/// after the calls of none, some or all of them, or also after the call of the next. It does leave one. Nothing is done: the law is
+/// the contract.
 pub fn a_stop_leaves_the_first_connections<K: Keeper>()
     ensures { (before after : K) (visits : List Visit) (served : AreServed K.Keeper before after visits) (h : History) → K.is_clean before → K.is_open before
         → IsKept (K.is_open before) (K.book before) h → IsFaithful h (calls_in served.courses) → K.is_clean after → (left : Option Book) → K.may_leave after left
         → IsLeftAmong h visits served.courses left }
 {}
 
-/// Where a reader tells its bytes, a body by which a crash left a book is the one that they ask for. Nothing is done: the law is
-/// the contract.
+/// If the bytes of a reader are known, a body by which a crash left a book is the one that these bytes ask for. Nothing is done: the
+/// law is the contract.
 pub fn what_is_left_was_sent()
     ensures { (h : History) (bytes : List ℕ) (gives : Option (List ℕ)) (want other : Want) (body : List ℕ) (moment : ℕ) (left : Option Book)
         → Received (Some bytes) gives (asks want body) → IsLeftBy h (Some bytes) gives other moment left → IsFaithful h (call_wanted want body moment ∷ [])

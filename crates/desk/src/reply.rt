@@ -1,7 +1,7 @@
-//! The bytes of a reply, written piece by piece, so that none of them takes memory.
+//! The bytes of a reply, written piece by piece, so that no piece takes memory.
 //!
 //! The texts of a reply are in the program or come from the archive, and a fault is written in parts. So a reply takes no memory, and a 422
-//! never becomes a 507.
+//! never turns into a 507.
 ghost use Rattle.std.specs.Prelude.{◌≡◌, ◌≤◌, ◌*◌, ◌^◌, false, None, [], unwrap_or, length, string_bytes, OnOk, OnErr};
 ghost use Rattle.std.specs.List.{flat_map};
 ghost use Rattle.std.specs.Io.KnownBytes.{Appends, Keeps};
@@ -21,7 +21,7 @@ use http::{Method, StatusCode};
 use itoa::Buffer;
 use std::io::Write;
 
-/// What a reply carries. Each but `Bytes` is text, of which every line ends with a newline.
+/// What a reply carries. All but `Bytes` is text, and every line of it ends with a newline.
 #[derive(Debug, Drop)]
 pub enum Body {
     /// The status and its phrase.
@@ -38,9 +38,9 @@ pub enum Body {
 #[derive(Debug, Drop)]
 pub struct Reply {
     pub status: StatusCode,
-    /// The method to use instead, where another was used.
+    /// The method to use instead, if another was used.
     pub allow: Option<Method>,
-    /// Whether the body is no text.
+    /// Whether the body is bytes rather than text.
     pub is_binary: bool,
     pub body: Body,
 }
@@ -119,7 +119,7 @@ fn write_head<W: Write>(writer: &mut W, reply: &Reply) -> Result<(), WriterFaile
     write_parts(writer, &parts)
 }
 
-/// The texts in a head that differ from reply to reply.
+/// The texts of a head that vary from reply to reply.
 #[derive(Clone, Copy)]
 struct Parts<'t> {
     status: &'t str,
@@ -153,7 +153,7 @@ fn write_parts<W: Write>(writer: &mut W, parts: &Parts<'_>) -> Result<(), Writer
     write_pieces(writer, pieces.as_slice())
 }
 
-/// A part of the line that names an allowed method, where there is one.
+/// A part of the line that names an allowed method, if there is one.
 fn allow_part<'r>(reply: &Reply, part: &'r str) -> &'r str
     ensures { result.now ≡ option_map_or (λ _. part.now) reply.now.allow [] }
 {
@@ -189,7 +189,7 @@ fn content_type_of(is_binary: bool) -> &'static str
     }
 }
 
-/// How many bytes the body has. The sum of many texts may pass any `u64`.
+/// The number of bytes of the body. The sum of many texts may exceed any `u64`.
 fn body_length(reply: &Reply) -> u128
     ensures { result ≡ length (body_text reply.now.status reply.now.body) }
 {
@@ -232,7 +232,7 @@ fn fault_length(text: &FaultText) -> u128
         + line.len() as u128
 }
 
-/// The digits of a line's number, or nothing where there is none.
+/// The digits of a line's number, or nothing if there is no number.
 fn line_digits(line: Option<usize>, digits: &mut Buffer) -> &str
     ensures { result.now ≡ line_part line }
 {

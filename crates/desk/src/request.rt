@@ -1,4 +1,4 @@
-//! A request as far as its head; the body of a delivery is left to the archive.
+//! A request up to the end of its head. The body of a delivery is left to the archive.
 ghost use Rattle.std.specs.Prelude.{IfOk, OnErr};
 ghost use Rattle.desk.specs.Incoming.{IsIncoming, ReadsBeginning};
 
@@ -10,18 +10,18 @@ use queue::ReaderFailed;
 use std::alloc::Global;
 use std::io::Read;
 
-/// What came in.
+/// What came in from a connection.
 #[derive(Debug, Drop)]
 pub enum Request {
-    /// No byte.
+    /// No byte came.
     Nothing,
-    /// What is refused before the archive hears of it.
+    /// The request is refused before the archive hears of it.
     Refused(Refusal),
     /// A command for the archive. The body of a delivery follows, and was not read.
     Asks(Wanted),
 }
 
-/// Reads the head of one request as far as its empty line, and nothing behind it. Where the reader fails or memory is
+/// Reads the head of one request as far as its empty line, and nothing after it. If the reader fails or memory is
 /// short, no more was read than a beginning of what the request uses.
 pub fn read_request<R: Read>(
     alloc: Global,

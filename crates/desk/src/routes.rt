@@ -1,6 +1,6 @@
 //! Which command a path asks for, and the desk that knows it.
 //!
-//! The routes are read once, into a `Desk`, by which any number of connections is answered. The function `answer` makes one of its own: if
+//! The routes are read once, into a `Desk`, which answers any number of connections. The function `answer` makes a desk of its own: if
 //! there is no memory for it the reply is 507, and nothing was read.
 ghost use Rattle.std.specs.Prelude.{◌≡◌, [], take, IfOk, IfErr, OnOk};
 ghost use Rattle.desk.specs.Want.{add_routes, method_of, route_texts, routes};
