@@ -1,4 +1,4 @@
-//! What is asked of the archive of a database file.
+//! The commands that ask the archive of a database file.
 
 use crate::database::{InFile, Opening, close, open_shown};
 use crate::fault::{Stop, all_taken};
@@ -10,7 +10,7 @@ use keep::Keeper;
 use queue::Archive;
 use std::io::Write;
 
-/// Delivers files, shows how many of their bytes are, and says whether all were taken.
+/// Delivers files, shows how many of their bytes are delivered, and says whether all were taken.
 fn put<'a, K: Keeper, W: Write, E: Write>(
     rt: &HostRuntime,
     archive: &mut Archive<K>,
@@ -25,7 +25,7 @@ fn put<'a, K: Keeper, W: Write, E: Write>(
     done
 }
 
-/// Asks an archive, and says whether all that was given was taken.
+/// Asks an archive, and says whether everything that was given was taken.
 fn ask<'a, K: Keeper, W: Write, E: Write>(
     rt: &HostRuntime,
     archive: &mut Archive<K>,
@@ -54,8 +54,8 @@ fn ask<'a, K: Keeper, W: Write, E: Write>(
     }
 }
 
-/// Asks the archive of a database file, and says whether all that was given was taken. How far a `put` is comes to `err`, where that is
-/// a terminal.
+/// Asks the archive of a database file, and says whether everything that was given was taken. The progress of a `put` is shown on
+/// `err`, if that is a terminal.
 pub fn ask_file<'a, K: Keeper + Drop, F: InFile<K>, W: Write, E: Write>(
     rt: &HostRuntime,
     opening: Opening<'_>,
@@ -97,7 +97,7 @@ pub fn list_file<'a, K: Keeper + Drop, F: InFile<K>, W: Write>(
     done
 }
 
-/// Prints why uploads to the archive of a database file have their verdicts, and what those lack that wait.
+/// Prints why uploads to the archive of a database file have their verdicts, and what the waiting uploads lack.
 pub fn why_file<'a, K: Keeper + Drop, F: InFile<K>, W: Write>(
     rt: &HostRuntime,
     db: &str,

@@ -1,15 +1,16 @@
 //! Lists of commands, made over one opening of an archive.
 //!
-//! A list is read whole before the database is opened. So a slip leaves no half of a list done, and costs no opening. It goes on after a
-//! file that can't be read, and `put` ends: the list's other commands were asked for as well, and a list is mostly written by a program.
+//! A list is read whole before the database is opened, so a bad line leaves no list half done, and costs no opening. A list goes on after
+//! a file that can't be read, but `put` ends there. The other commands of the list were asked for as well, and most lists are written by a
+//! program.
 //!
-//! The commands go through `drive`, so that the call which the promise speaks of is the one that the program makes. It is handed the
-//! bodies, so a group of deliveries is in memory: up to 16 MiB of bodies, four of the largest files. A call costs nothing beside its
-//! commands, so a larger group would save nothing, and would print later.
+//! The commands go through `drive`, so the program makes the call of which the promise speaks. `drive` is handed the bodies, so a group of
+//! deliveries is in memory: up to 16 MiB of bodies, four of the largest files. A call costs nothing besides its commands, so a larger
+//! group would save nothing, and would print later.
 //!
-//! `drive` makes all that it is handed, also after a fault of memory or the disk. What is lost by that is the order. If a copy finds no
-//! room and the removal after it is done, no suite shows the package any more, and the list given again can't bring it back. So a group is
-//! deliveries alone. Those after a fault in it have been tried too, and are not reported.
+//! `drive` makes all commands that it is handed, also those after a fault of memory or the disk. Then their order is lost. If a copy finds
+//! no room and the removal after it is done, no suite shows the package any more, and the list given again can't bring it back. So a group
+//! has only deliveries. Those after a fault have been tried too, and are not reported.
 
 ghost use Rattle.std.specs.Prelude.{◌≡◌, ◌+◌, nat_le};
 
@@ -27,28 +28,28 @@ use std::fs::File;
 use std::io::{self, Read, Write};
 use std::rt::Files;
 
-/// The most bytes that the bodies of a group have.
+/// The most bytes that the bodies of a group may have in all.
 const MOST_BYTES: u64 = 16_777_216;
 
-/// Deliveries that are made by one call, or one other command, and their lines of the list.
+/// Deliveries that are made by one call, or one other command, with their lines of the list.
 #[derive(Drop)]
 struct Group<'l> {
     /// Whether a run that refuses an upload counts as not done.
     is_strict: bool,
     requests: Vec<ListRequest<'l>>,
     commands: Vec<Command>,
-    /// How many bytes the bodies have.
+    /// The number of bytes of the bodies.
     bytes: u64,
 }
 
-/// Whether a body of so many bytes may come to bodies of so many.
+/// Whether a body of `more` bytes may be added to bodies of `held` bytes.
 fn has_room(held: u64, more: u64) -> bool
     ensures { result ≡ nat_le (held + more) MOST_BYTES }
 {
     held as u128 + more as u128 <= MOST_BYTES as u128
 }
 
-/// How many bytes the body of a command has.
+/// The number of bytes of the body of a command.
 fn size_of(command: &Command) -> u64 {
     match command {
         Command::Deliver { body, .. } => body.len() as u64,
@@ -88,7 +89,7 @@ impl<'l> Group<'l> {
     }
 }
 
-/// The bytes of a list: those of a file, or of standard input where the path is `-`.
+/// The bytes of a list: those of a file, or of standard input if the path is `-`.
 fn list_at(rt: &HostRuntime, path: &str) -> io::Result<Vec<u8>> {
     let mut text = Vec::new(rt.alloc());
     if path == "-" {
@@ -99,7 +100,7 @@ fn list_at(rt: &HostRuntime, path: &str) -> io::Result<Vec<u8>> {
     Ok(text)
 }
 
-/// The bytes of a file to deliver, or nothing where it can't be read, as those of the database itself.
+/// The bytes of a file to deliver, or nothing if it can't be read. The files of the database itself can't be read.
 fn readable<R: Files + AllocGlobal>(
     rt: &R,
     db: &str,
@@ -115,7 +116,7 @@ fn readable<R: Files + AllocGlobal>(
     }
 }
 
-/// The delivery of a file, or nothing where it can't be read, which has a line on standard error.
+/// The delivery of a file, or nothing if it can't be read. Then a line on standard error says so.
 fn delivery<'a, R: Files + AllocGlobal, E: Write>(
     rt: &R,
     opening: Opening<'_>,
@@ -133,7 +134,7 @@ fn delivery<'a, R: Files + AllocGlobal, E: Write>(
     }))
 }
 
-/// The copy of a source's packages from a suite to another at a moment.
+/// The copy of a source's packages from one suite to another at a moment.
 fn copying(
     alloc: Global,
     at: u64,
@@ -149,7 +150,7 @@ fn copying(
     })
 }
 
-/// The promotion of all that a suite shows to another at a moment.
+/// The promotion of all that one suite shows to another at a moment.
 fn promoting(alloc: Global, at: u64, from: &str, to: &str) -> Result<Command, AllocError> {
     Ok(Command::Promote {
         from: String::from_str(alloc, from)?,
@@ -168,7 +169,7 @@ fn removing(alloc: Global, at: u64, suite: &str, name: &str) -> Result<Command, 
     })
 }
 
-/// The command that a line asks for, or nothing where its file can't be read, which has a line on standard error.
+/// The command that a line asks for, or nothing if its file can't be read. Then a line on standard error says so.
 fn command_of<'a, R: Files + AllocGlobal, E: Write>(
     rt: &R,
     opening: Opening<'_>,
@@ -197,7 +198,7 @@ fn name_of<'l>(request: &ListRequest<'l>) -> &'l str {
     }
 }
 
-/// Prints words, each behind a space and as it is shown, and ends the line.
+/// Prints words, each after a space and as it is shown, and ends the line.
 fn print_words<W: Write>(words: &[&str], out: &mut W) -> io::Result<()> {
     for word in words {
         let word = Shown(word);
@@ -206,7 +207,7 @@ fn print_words<W: Write>(words: &[&str], out: &mut W) -> io::Result<()> {
     out.write_all(b"\n")
 }
 
-/// Prints the words of a line behind its first.
+/// Prints the words of a line after its first.
 fn print_rest<W: Write>(request: &ListRequest<'_>, out: &mut W) -> io::Result<()> {
     match *request {
         Request::Copy { from, to, source } => print_words(&[from, to, source], out),
@@ -216,8 +217,8 @@ fn print_rest<W: Write>(request: &ListRequest<'_>, out: &mut W) -> io::Result<()
     }
 }
 
-/// Prints `refused FAULT` and the words of a line behind its first, as they are shown, and says that it was not done. Want of memory
-/// and a fault of the keeper end the program instead.
+/// Prints `refused FAULT` and the words of a line after its first, as they are shown, and says that it was not done. Want of memory and a
+/// fault of the keeper end the program instead.
 fn print_refused<'a, W: Write>(
     fault: Fault,
     request: &ListRequest<'_>,
@@ -231,7 +232,7 @@ fn print_refused<'a, W: Write>(
     Ok(false)
 }
 
-/// Prints the lines that a command answers, and says whether it was done.
+/// Prints the lines of a command's answer, and says whether the command was done.
 fn print_lines<'a, W: Write>(
     alloc: Global,
     done: &Result<Report, Fault>,
@@ -247,7 +248,8 @@ fn print_lines<'a, W: Write>(
     }
 }
 
-/// Prints the lines that a run answers, and says whether it was done: where it is strict, also whether no upload was refused.
+/// Prints the lines of a run's answer, and says whether the run was done. If it is strict, a run that refuses an upload counts as not
+/// done.
 fn print_run<'a, W: Write>(
     alloc: Global,
     done: &Result<Report, Fault>,
@@ -293,7 +295,7 @@ fn print_number<W: Write>(count: u64, request: &ListRequest<'_>, out: &mut W) ->
     }
 }
 
-/// Prints the count that a command answers, and says whether it was done.
+/// Prints the count of a command's answer, and says whether the command was done.
 fn print_count<'a, W: Write>(
     done: &Result<u64, Fault>,
     request: &ListRequest<'_>,
@@ -308,7 +310,7 @@ fn print_count<'a, W: Write>(
     }
 }
 
-/// Prints what the command of a line answered, and says whether it was done.
+/// Prints the answer to the command of a line, and says whether the command was done.
 fn print_outcome<'a, W: Write>(
     alloc: Global,
     outcome: &Outcome,
@@ -329,7 +331,7 @@ fn print_outcome<'a, W: Write>(
     }
 }
 
-/// Prints what each command answered, up to one that ends the program, and says whether all were done.
+/// Prints the answer to each command, up to one that ends the program, and says whether all were done.
 fn print_outcomes<'a, W: Write>(
     alloc: Global,
     outcomes: &[Outcome],
@@ -346,8 +348,8 @@ fn print_outcomes<'a, W: Write>(
     Ok(all)
 }
 
-/// Makes the commands of a group by one call, prints what each answered, has that written out, and leaves the group without
-/// commands. It says whether all were done.
+/// Makes the commands of a group by one call, prints each answer, has that written out, and leaves the group without commands. It says
+/// whether all were done.
 fn make_group<'a, K: Keeper, W: Write, E: Write>(
     alloc: Global,
     archive: &mut Archive<K>,
@@ -365,7 +367,8 @@ fn make_group<'a, K: Keeper, W: Write, E: Write>(
     printed
 }
 
-/// Adds a delivery to a group, which is made before where its bodies leave no room. It says whether all that it made was done.
+/// Adds a delivery to a group. If the bodies of the group leave no room for it, the group is made first. It says whether all that it made
+/// was done.
 fn take_delivery<'a, 'l, K: Keeper, W: Write, E: Write>(
     alloc: Global,
     archive: &mut Archive<K>,
@@ -383,7 +386,7 @@ fn take_delivery<'a, 'l, K: Keeper, W: Write, E: Write>(
     Ok(all)
 }
 
-/// Makes a group, and a command behind it as a group of its own. It says whether all that it made was done.
+/// Makes a group, and then a command as a group of its own. It says whether all that it made was done.
 fn make_alone<'a, 'l, K: Keeper, W: Write, E: Write>(
     alloc: Global,
     archive: &mut Archive<K>,
@@ -399,9 +402,10 @@ fn make_alone<'a, 'l, K: Keeper, W: Write, E: Write>(
     Ok(before && done)
 }
 
-/// Adds the delivery of a line to a group, which is made before where its bodies leave no room. A command of another kind is a
-/// group of its own, made at once, and the group before it is made first: so nothing is made behind one that ends the program but
-/// deliveries, which may be given again. It says whether all that it made was done, and the file of the line could be read.
+/// Adds the delivery of a line to a group. If the bodies of the group leave no room for it, the group is made first. A command of another
+/// kind is a group of its own: the group before it is made first, and then the command at once. So only deliveries, which may be given
+/// again, are made after a command that ends the program. It says whether all that it made was done, and whether the file of the line
+/// could be read.
 fn take_line<'a, 'l, R: Files + AllocGlobal, K: Keeper, W: Write, E: Write>(
     rt: &R,
     archive: &mut Archive<K>,
@@ -422,7 +426,7 @@ fn take_line<'a, 'l, R: Files + AllocGlobal, K: Keeper, W: Write, E: Write>(
     }
 }
 
-/// Makes the commands of lines behind those of a group, and says whether all were done and each file could be read.
+/// Makes the commands of lines after those of a group, and says whether all were done and each file could be read.
 fn take_lines<'a, 'l, R: Files + AllocGlobal, K: Keeper, W: Write, E: Write>(
     rt: &R,
     archive: &mut Archive<K>,
@@ -442,8 +446,8 @@ fn take_lines<'a, 'l, R: Files + AllocGlobal, K: Keeper, W: Write, E: Write>(
     Ok(all && last)
 }
 
-/// Makes the commands of lines in groups, and says whether all were done and each file could be read. It goes on behind a
-/// refusal, and behind a file that can't be read, which has a line on standard error.
+/// Makes the commands of lines in groups, and says whether all were done and each file could be read. It goes on after a refusal, and
+/// after a file that can't be read, for which it writes a line on standard error.
 fn make_lines<'a, R: Files + AllocGlobal, K: Keeper, W: Write, E: Write>(
     rt: &R,
     archive: &mut Archive<K>,
@@ -459,7 +463,7 @@ fn make_lines<'a, R: Files + AllocGlobal, K: Keeper, W: Write, E: Write>(
 }
 
 /// Makes the commands of lines over one opening of the archive of a database file, and says whether all were done and each file could be
-/// read. How many lines are done comes to `err`, where that is a terminal.
+/// read. The number of lines that are done is shown on `err`, if that is a terminal.
 fn make_in_file<'a, K: Keeper + Drop, F: InFile<K>, W: Write, E: Write>(
     rt: &HostRuntime,
     opening: Opening<'_>,
@@ -484,10 +488,10 @@ fn make_in_file<'a, K: Keeper + Drop, F: InFile<K>, W: Write, E: Write>(
     done
 }
 
-/// Reads a list of commands, and makes them all at one moment, over one opening of the archive of a database file. It prints what each
-/// answers, in the order of the list, and says whether all were done; where it is strict, also whether no run refused an upload. The whole
-/// list is read before the database is opened: one with a bad line ends the program before anything is done. How many lines are done comes
-/// to `err`, where that is a terminal.
+/// Reads a list of commands, and makes them all at one moment, over one opening of the archive of a database file. It prints the answer to
+/// each, in the order of the list, and says whether all were done. If it is strict, a run that refuses an upload counts as not done. The
+/// whole list is read before the database is opened: a bad line ends the program before anything is done. The number of lines that are
+/// done is shown on `err`, if that is a terminal.
 pub fn batch_file<'a, K: Keeper + Drop, F: InFile<K>, W: Write, E: Write>(
     rt: &HostRuntime,
     opening: Opening<'_>,

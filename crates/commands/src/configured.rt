@@ -1,4 +1,4 @@
-//! The commands that read a configuration: they make an archive, give it another, or say what it says.
+//! The commands that read a configuration: they make an archive, give it another configuration, or print what a configuration says.
 
 use crate::database::{InFile, close, create_archive, migrate_archive, open_archive};
 use crate::fault::Stop;
@@ -33,7 +33,7 @@ pub fn init<'a, K: Keeper + Drop, F: InFile<K>>(
 }
 
 /// Prints what the configuration of a text says, which of its components no export can write, and which of its fields are passed over. It
-/// says whether there are none of both.
+/// says whether there are no such components and no such fields.
 fn check_text<'a, W: Write>(alloc: Global, text: &[u8], out: &mut W) -> Result<bool, Stop<'a>> {
     let config = Config::read(alloc, text)?;
     let passed_over = unknown_fields(alloc, text)?;
@@ -42,7 +42,7 @@ fn check_text<'a, W: Write>(alloc: Global, text: &[u8], out: &mut W) -> Result<b
     Ok(passed_over.is_empty() && can_be_exported(&config))
 }
 
-/// The same of the configuration of a file.
+/// Checks the configuration of a file as `check_text` does.
 pub fn check<'a, R: Files + AllocGlobal, W: Write>(
     rt: &R,
     conf: &'a str,
@@ -52,8 +52,8 @@ pub fn check<'a, R: Files + AllocGlobal, W: Write>(
     check_text(rt.alloc(), &text, out)
 }
 
-/// Gives the archive of a database file another configuration, that of a file, at a moment, in seconds since 1970-01-01 00:00:00 UTC. It
-/// is read before the database is opened.
+/// Gives the archive of a database file the configuration of a file, at a moment, in seconds since 1970-01-01 00:00:00 UTC. The
+/// configuration is read before the database is opened.
 pub fn configure<'a, K: Keeper + Drop, F: InFile<K>>(
     rt: &HostRuntime,
     db: &str,
@@ -70,8 +70,8 @@ pub fn configure<'a, K: Keeper + Drop, F: InFile<K>>(
     done
 }
 
-/// Makes an archive in a database file, with the configuration of a file, of the archive of an older layout in another database file, with
-/// all arrivals as of a moment, in seconds since 1970-01-01 00:00:00 UTC.
+/// Makes an archive in a database file, with the configuration of a file, from the archive of an older layout in another database file.
+/// All arrivals are as of a moment, in seconds since 1970-01-01 00:00:00 UTC.
 pub fn migrate<'a, K: Keeper + Drop, F: InFile<K>>(
     rt: &HostRuntime,
     from: &str,

@@ -1,12 +1,12 @@
 //! The archive of a database file.
 //!
-//! A database file that is not there is no archive (K4) and is made by `init` alone: left to itself SQLite would make an empty file, and
-//! then answer K4. A file without a byte, and without a log beside it, is no archive either but for `init`, and is left as it is.
+//! A database file that is not there is no archive (K4). Only `init` makes it: left to itself SQLite would make an empty file, and then
+//! answer K4. A file without a byte, and without a log beside it, is also no archive, except for `init`, and is left as it is.
 //!
-//! A log that an opening finds gets the mode of its database. The library gives it to a log that it makes, and a log stays after a command,
-//! so that it would keep the mode which the database had then. It is changed by its descriptor, and only if it is a regular file of one
-//! name: so whoever may write in the folder has no other file's mode changed by that. If this process may not, as for a file of another
-//! owner, it stays.
+//! An opening gives the log that it finds the mode of the database. SQLite gives a log this mode only when it makes the log, and a log
+//! stays after a command, so it would keep the mode that the database had then. The mode is changed through a descriptor, and only if the
+//! log is a regular file of one name. So nobody who may write in the folder can have the mode of another file changed. If this process may
+//! not change the mode, as for a file of another owner, it stays.
 
 use crate::fault::Stop;
 use crate::progress::Progress;
@@ -20,7 +20,7 @@ use std::os::unix::fs::{MetadataExt, PermissionsExt};
 use std::rt::Files;
 use std::{fs, io};
 
-/// The database file whose archive is asked, and the moment at which it is, in seconds since 1970-01-01 00:00:00 UTC.
+/// The database file whose archive is asked, and the moment of the request, in seconds since 1970-01-01 00:00:00 UTC.
 #[derive(Clone, Copy)]
 pub struct Opening<'o> {
     pub db: &'o str,
@@ -36,8 +36,8 @@ fn folder_of(path: &str) -> &str {
     }
 }
 
-/// Whether an open of the database would make its file: there is none at the path, its folder is there, and the path is
-/// not one of those that never lead to a file.
+/// Whether an open of the database would make its file: there is none at the path, its folder is there, and the path is not one of those
+/// that never lead to a file.
 fn would_make<R: Files>(rt: &R, path: &str) -> bool {
     if path.is_empty() || path == ":memory:" || path.starts_with("file:") {
         return false;
@@ -50,7 +50,7 @@ fn would_make<R: Files>(rt: &R, path: &str) -> bool {
     }
 }
 
-/// How many bytes the regular file at a path has, where there is one.
+/// The number of bytes of the regular file at a path, if there is one.
 pub fn length_of<R: Files>(rt: &R, path: &str) -> Option<u64> {
     match fs::metadata(rt, path) {
         Ok(found) if found.is_file() => Some(found.len()),
@@ -64,7 +64,7 @@ fn is_blank<R: Files + AllocGlobal>(rt: &R, path: &str) -> Result<bool, AllocErr
     Ok(length_of(rt, path) == Some(0) && matches!(length_of(rt, log.as_str()), None | Some(0)))
 }
 
-/// Whether two looks found one file.
+/// Whether two look-ups found one file.
 fn is_same(one: &Metadata, other: &Metadata) -> bool {
     one.dev() == other.dev() && one.ino() == other.ino()
 }
@@ -77,7 +77,7 @@ fn is_one_file<R: Files>(rt: &R, one: &str, other: &str) -> bool {
     }
 }
 
-/// Whether a path leads to the file beside a database whose name ends so.
+/// Whether a path leads to the file beside a database whose name has this ending.
 fn is_beside<R: Files + AllocGlobal>(
     rt: &R,
     db: &str,
@@ -88,7 +88,7 @@ fn is_beside<R: Files + AllocGlobal>(
     Ok(is_one_file(rt, own.as_str(), path))
 }
 
-/// Whether a path leads to the file of a database, or to one that SQLite keeps beside it.
+/// Whether a path leads to the file of a database, or to a file that SQLite keeps beside it.
 pub fn is_of_database<R: Files + AllocGlobal>(
     rt: &R,
     db: &str,
@@ -111,7 +111,7 @@ fn log_of<R: Files + AllocGlobal>(rt: &R, path: &str) -> io::Result<String> {
     Ok(format!(in rt.alloc(); "{}-wal", real.as_str())?)
 }
 
-/// Gives the file at a path the mode, if it is the one that was looked at.
+/// Gives the file at a path the mode, if it is the file that was looked up.
 fn set_mode<R: Files>(rt: &R, path: &str, named: &Metadata, mode: u32) -> io::Result<()> {
     let file = File::open(rt, path)?;
     if !is_same(&file.metadata()?, named) {
@@ -120,13 +120,13 @@ fn set_mode<R: Files>(rt: &R, path: &str, named: &Metadata, mode: u32) -> io::Re
     file.set_permissions(Permissions::from_mode(mode))
 }
 
-/// Whether a file is a regular one of one name, and its mode another.
+/// Whether a file is a regular file of one name, with another mode.
 fn lacks_mode(named: &Metadata, mode: u32) -> bool {
     named.is_file() && named.nlink() == 1 && named.mode() & ACCESS != mode
 }
 
-/// Gives the log that lies beside a database the mode of the database, where this process may. A log stays behind a command, so that it
-/// has the mode which the database had once. Only a file with this one name is changed: the one that was looked at.
+/// Gives the log that lies beside a database the mode of the database, if this process may. A log stays after a command, so that it has the
+/// mode which the database had once. Only a file with this one name is changed, and only the file that was looked up.
 fn share_mode<R: Files + AllocGlobal>(rt: &R, path: &str) -> io::Result<()> {
     let mode = fs::metadata(rt, path)?.mode() & ACCESS;
     let log = log_of(rt, path)?;
@@ -146,7 +146,7 @@ fn is_new<R: Files + AllocGlobal>(rt: &R, path: &str) -> Result<bool, AllocError
 }
 
 /// Opens the archive of a database file. A file that is not there or has no bytes is no archive, and nothing is made. The log beside it
-/// gets its mode, if that can be.
+/// gets its mode, if that is possible.
 pub fn open_archive<'a, K: Keeper + Drop, F: InFile<K>>(
     rt: &HostRuntime,
     path: &str,
@@ -159,7 +159,8 @@ pub fn open_archive<'a, K: Keeper + Drop, F: InFile<K>>(
     Ok(Archive::new(rt.alloc(), keeper))
 }
 
-/// The same, for a command that shows that it is opening a large one, where standard error is a terminal.
+/// Opens the archive of a database file, for a command that shows that it is opening a large one. It shows that only if standard error is a
+/// terminal.
 pub fn open_shown<'a, K: Keeper + Drop, F: InFile<K>>(
     rt: &HostRuntime,
     path: &str,
@@ -172,8 +173,8 @@ pub fn open_shown<'a, K: Keeper + Drop, F: InFile<K>>(
     opened
 }
 
-/// Makes an archive of the configuration in a database file, at a moment, in seconds since 1970-01-01 00:00:00 UTC. The
-/// file is made where it is not there.
+/// Makes an archive of the configuration in a database file, at a moment, in seconds since 1970-01-01 00:00:00 UTC. The file is made if it
+/// is not there.
 pub fn create_archive<'a, K: Keeper + Drop, F: InFile<K>>(
     rt: &HostRuntime,
     path: &str,
@@ -187,8 +188,8 @@ pub fn create_archive<'a, K: Keeper + Drop, F: InFile<K>>(
     Ok(Archive::new(rt.alloc(), keeper))
 }
 
-/// What the archive of an older layout holds that a database file has. The file is to be another than that at the path `to`, and than
-/// those beside it.
+/// The contents of the archive of an older layout in a database file. The file has to differ from that at the path `to`, and from those
+/// beside it.
 fn old_archive<'a, K, F: InFile<K>>(
     rt: &HostRuntime,
     from: &str,
@@ -200,9 +201,9 @@ fn old_archive<'a, K, F: InFile<K>>(
     Ok(F::old(rt, from)?)
 }
 
-/// Makes an archive of the configuration in a database file, of what the archive of an older layout in another file holds, with all
-/// arrivals as of a moment, in seconds since 1970-01-01 00:00:00 UTC. The file is made where it is not there; a configuration that is not
-/// like the older one is refused before.
+/// Makes an archive of the configuration in a database file, from the archive of an older layout in another file. All arrivals are as of a
+/// moment, in seconds since 1970-01-01 00:00:00 UTC. The file is made if it is not there; a configuration that is not like the older one is
+/// refused before that.
 pub fn migrate_archive<'a, K: Keeper + Drop, F: InFile<K>>(
     rt: &HostRuntime,
     from: &str,
@@ -221,8 +222,8 @@ pub fn migrate_archive<'a, K: Keeper + Drop, F: InFile<K>>(
     Ok(Archive::new(rt.alloc(), keeper))
 }
 
-/// Closes the archive of a database file. The log beside the file is copied into the file, so that this alone is the
-/// archive. A failure of that loses nothing: the log stays then, and the next open reads both.
+/// Closes the archive of a database file. The log beside the file is copied into the file, so that this alone is the archive. If that fails
+/// nothing is lost: the log stays, and the next open reads both.
 pub fn close<K: Keeper + Drop, F: InFile<K>>(archive: Archive<K>) {
     F::closed(archive.into_keeper());
 }

@@ -16,19 +16,20 @@ use vers::VersionFault;
 pub enum Stop<'a> {
     #[error("archive: cannot read {0}")]
     Unreadable(Shown<'a>),
-    /// A list of commands has this line, counted from 1, that is neither a command nor passed over.
+    /// This line of a list of commands, counted from 1, is neither a command nor passed over.
     #[error("archive: line {0}")]
     BadLine(usize),
     #[error("archive: {0}")]
     Refused(Fault),
-    /// The database is not opened, no archive is made in it or of it, or its archive gets no other configuration.
+    /// The database is not opened, no archive is made in it or from it, or its archive is not given another configuration.
     #[error("archive: {0}")]
     NoArchive(KeepFault),
-    /// The database is not opened: its tables are not those of an archive, and say that they are of this older layout, of which a migration
-    /// makes one.
+    /// The database is not opened. Its tables are not those of an archive, and say that they are of this older layout, from which a
+    /// migration can make an archive.
     #[error("archive: {0}\narchive: an archive of layout {1}: archive migrate reads it")]
     Older(KeepFault, u64),
-    /// The same where the layout is one that a later program made.
+    /// The database is not opened. Its tables are not those of an archive, and say that they are of this layout, which a later program
+    /// made.
     #[error("archive: {0}\narchive: an archive of layout {1}, which a later program made")]
     Later(KeepFault, u64),
     /// A configuration is refused.
@@ -42,7 +43,7 @@ pub enum Stop<'a> {
     /// A path below the folder of an export can't be written.
     #[error("archive: cannot write {0}")]
     Unplaced(OwnedShown),
-    /// A folder of an export shows this suite signed, and the export was not told what to do about that.
+    /// A folder of an export shows this suite signed, and neither `--signed` nor `--unsigned` was given to the export.
     #[error("archive: suite {0} is signed in the tree: give --signed or --unsigned")]
     Signed(OwnedShown),
     /// A component has the name of a file that an export writes beside its folder.
@@ -51,7 +52,7 @@ pub enum Stop<'a> {
     /// The address can't be used, or a connection can't be accepted.
     #[error("archive: cannot listen")]
     CannotListen,
-    /// The keeper that was served is shut, and so many connections are left to be answered.
+    /// The keeper that was served is shut, and this number of connections is left to be answered.
     #[error("archive: {0} connections are left")]
     Shut(u64),
     /// The archive that was served can't be opened again.
@@ -118,9 +119,9 @@ impl From<io::Error> for Stop<'_> {
 }
 
 impl Stop<'_> {
-    /// The exit status: 1 where something is refused or can't be read, 2 for a list with a bad line, 3 for want of memory,
-    /// a disk that fails, a size that is too large, an address that can't be used, an archive that can't be served on, a path
-    /// that can't be written, or an output that fails.
+    /// The exit status: 1 if something is refused or can't be read, 2 for a list with a bad line, 3 for want of memory, a disk that fails,
+    /// a size that is too large, an address that can't be used, an archive that can't be served on, a path that can't be written, or an
+    /// output that fails.
     pub fn status(&self) -> u8 {
         match self {
             Stop::Unreadable(_) | Stop::NotFound => 1,
@@ -142,7 +143,7 @@ impl Stop<'_> {
     }
 }
 
-/// Says that all that was given was taken, where it is done.
+/// Says that everything that was given was taken, if it is done.
 pub fn all_taken<'a>(done: Result<(), Stop<'a>>) -> Result<bool, Stop<'a>> {
     match done {
         Ok(()) => Ok(true),

@@ -1,11 +1,11 @@
 //! Files that were given.
 //!
-//! A file of the system that says it has no byte is delivered as one without a byte. What is no regular file, as a pipe, has no length
-//! beforehand. It is read whole, up to one byte more than a delivery may have, so that a longer one is refused as too large (Q2). So is
-//! each file of `try`.
+//! A file that says it has no bytes, as some files of the system do, is delivered without a byte. What is no regular file, such as a pipe,
+//! has no length beforehand. It is read whole, up to one byte more than a delivery may have, so that a longer one is refused as too large
+//! (Q2). So is each file of `try`.
 //!
-//! A configuration is no pipe, socket or device of a name of its own: a command would wait for whoever writes into it, perhaps without end.
-//! What the caller has open already, as standard input, is read.
+//! A configuration is not read from a pipe, socket or device that has a name: a command would wait for whoever writes into it, perhaps
+//! without end. What the caller has already opened, such as standard input, is read.
 
 use crate::fault::Stop;
 use crate::shown::Shown;
@@ -17,7 +17,7 @@ use std::rt::Files;
 /// One byte more than a delivered body may have, so that a longer file is refused as one.
 const MOST_READ: u64 = 4_194_305;
 
-/// The text behind a path's last slash.
+/// The text after a path's last slash.
 pub fn file_name(path: &str) -> &str {
     match path.rsplit_once('/') {
         Some((_, name)) => name,
@@ -65,8 +65,8 @@ fn is_special(seen: &Metadata) -> bool {
     !seen.is_symlink()
 }
 
-/// Whether a link leads to a pipe, a socket or a device. One below /dev/ or /proc/ is taken for the name of what the caller has open, as
-/// /dev/stdin, and as the path that a shell gives for `<(..)`.
+/// Whether a link leads to a pipe, a socket or a device. A link below /dev/ or /proc/ counts as the name of what the caller has opened,
+/// such as /dev/stdin, or the path that a shell gives for `<(..)`.
 fn leads_to_special<R: Files>(rt: &R, link: &str) -> bool {
     if link.starts_with("/dev/") || link.starts_with("/proc/") {
         return false;

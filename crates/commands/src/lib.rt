@@ -1,6 +1,6 @@
-//! What the program's commands do, but an export and a service, over any keeper in a file: a line of the command line, done over the archive
-//! of a database file, and what all commands share: how such an archive is opened and closed, why a command ends before it is done, and
-//! how what others chose is printed.
+//! What the program's commands do, except an export and a service, over any keeper in a file: each line of the command line is carried out
+//! over the archive of a database file. It also has what all commands share: how such an archive is opened and closed, why a command ends
+//! before it is done, and how names that others chose are printed.
 #![tactic(auto)]
 
 mod ask;

@@ -1,4 +1,4 @@
-//! What the program does for a line that neither exports nor serves, and what it says of words that are no line.
+//! What the program does for a line that neither exports nor serves, and what it says if the words are no line.
 
 use crate::ask::{ask_file, configuration_file, list_file, show_file, why_file};
 use crate::batch::batch_file;
@@ -28,12 +28,12 @@ const BOX_PACKAGES: &str = "dists/box/main/binary-amd64/Packages";
 fn box_archive(alloc: Global) -> Result<Archive<PlainKeeper>, Fault> {
     match Config::read(alloc, BOX) {
         Ok(config) => Ok(Archive::new(alloc, PlainKeeper::new(alloc, config, 0)?)),
-        // The text is a configuration, so that nothing but want of memory is left.
+        // The text is a configuration, so only want of memory is left.
         Err(_) => Err(Fault::OutOfMemory),
     }
 }
 
-/// Delivers a file at 0, under the text behind its path's last slash.
+/// Delivers a file at the moment 0, under the text after its path's last slash.
 fn deliver_file<'a, R: Files + AllocGlobal, K: Keeper>(
     rt: &R,
     archive: &mut Archive<K>,
@@ -70,7 +70,7 @@ fn try_files<'a, R: Files + AllocGlobal, K: Keeper, W: Write>(
     print_packages(rt.alloc(), archive, out)
 }
 
-/// The same with an archive of their own.
+/// Delivers the files to an archive of their own, runs its queue, and prints the Packages of what was accepted.
 fn try_upload<'a, R: Files + AllocGlobal, W: Write>(
     rt: &R,
     paths: &[&'a str],
@@ -98,8 +98,8 @@ fn compare<'a, W: Write>(
     Ok(())
 }
 
-/// Does a line that asks the archive of a database file over keepers of this type, and says whether all that was given was taken. For
-/// another line it does nothing.
+/// Carries out a line that asks the archive of a database file over keepers of this type, and says whether everything that was given was
+/// taken. For another line it does nothing.
 fn asked<'a, K: Keeper + Drop, F: InFile<K>, W: Write, E: Write>(
     rt: &HostRuntime,
     line: &CommandLine<'a>,
@@ -133,8 +133,8 @@ fn asked<'a, K: Keeper + Drop, F: InFile<K>, W: Write, E: Write>(
     }
 }
 
-/// Does a line over keepers of this type, and says whether all that was given was taken, and nothing passed over. For an export and a
-/// service it does nothing.
+/// Carries out a line over keepers of this type, and says whether everything that was given was taken, and nothing passed over. For an
+/// export and a service it does nothing.
 pub fn done<'a, K: Keeper + Drop, F: InFile<K>, W: Write, E: Write>(
     rt: &HostRuntime,
     line: &CommandLine<'a>,
@@ -186,7 +186,7 @@ fn shown_words(alloc: Global, words: &[&str]) -> Result<Vec<String>, AllocError>
     Ok(texts)
 }
 
-/// The words that these texts are.
+/// The words of these texts.
 fn words_of(alloc: Global, texts: &[String]) -> Result<Vec<&str>, AllocError> {
     let mut words = Vec::new(alloc);
     for text in texts {
@@ -195,7 +195,7 @@ fn words_of(alloc: Global, texts: &[String]) -> Result<Vec<&str>, AllocError> {
     Ok(words)
 }
 
-/// Reads words as they are shown, and takes only why they are no line.
+/// Reads words as they are shown, and keeps only why they are no line.
 fn read_shown(alloc: Global, words: &[&str]) -> Result<(), LineFault> {
     let texts = shown_words(alloc, words)?;
     let shown = words_of(alloc, &texts)?;
@@ -203,13 +203,13 @@ fn read_shown(alloc: Global, words: &[&str]) -> Result<(), LineFault> {
     Ok(())
 }
 
-/// Prints why words are no line, which were found to be none, and answers the exit status: 0 for the help or the version that was
-/// asked for, which is printed on `out`; 2 for words that are refused, with a text on `err` that says why; 3 where memory runs out or an
-/// output fails. The text is that of the words as they are shown, which are read once more for its sake: it quotes what was given.
+/// Prints why words that were refused are no line, and answers the exit status: 0 for the help or the version that was asked for, which
+/// is printed on `out`; 2 for other words, with a text on `err` that says why; 3 if memory runs out or an output fails. The text quotes
+/// what was given. So the words are read once more as they are shown, and the text is the one for these.
 pub fn explain<W: Write, E: Write>(alloc: Global, words: &[&str], out: &mut W, err: &mut E) -> u8 {
     let told = match read_shown(alloc, words) {
         Err(shown) => explained(&shown, out, err),
-        // No word becomes a good one by a question mark: where no fault is left, memory was wanting before.
+        // A question mark never makes a bad word good. So if no fault is left, memory was wanting before.
         Ok(()) => explained(&LineFault::OutOfMemory, out, err),
     };
     told.unwrap_or(3)

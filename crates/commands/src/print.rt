@@ -26,7 +26,7 @@ use std::io::{self, BufWriter, Write};
 use std::rt::Files;
 use suites::Shelves;
 
-/// How many bytes of lines are put together before they are written.
+/// The number of bytes of lines that are collected before they are written.
 const MOST_TOGETHER: usize = 65_536;
 
 /// Prints a line, as it is shown.
@@ -43,8 +43,8 @@ fn print_each<W: Write>(lines: &[String], out: &mut W) -> io::Result<()> {
     Ok(())
 }
 
-/// Prints lines, as they are shown. They are put together if there is memory for that, since two calls of the system for each line cost
-/// more than the rest of it.
+/// Prints lines, as they are shown. They are collected if there is memory for that, since two calls of the system for each line cost more
+/// than all the rest.
 pub fn print_lines<W: Write>(alloc: Global, lines: &[String], out: &mut W) -> io::Result<()> {
     if let Ok(mut together) = BufWriter::with_capacity(alloc, MOST_TOGETHER, &mut *out) {
         print_each(lines, &mut together)?;
@@ -68,8 +68,8 @@ pub fn has_refused(report: &Report) -> bool {
     false
 }
 
-/// Prints `new NAME`, `again NAME` or `refused FAULT NAME`, with the name as it is shown, and says whether a delivery was taken. Want
-/// of memory and a fault of the keeper end the program instead.
+/// Prints `new NAME`, `again NAME` or `refused FAULT NAME`, with the name as it is shown, and says whether a delivery was taken. Want of
+/// memory and a fault of the keeper end the program instead.
 pub fn print_arrived<'a, W: Write>(
     arrived: Result<Arrived, Fault>,
     name: &str,
@@ -88,7 +88,7 @@ pub fn print_arrived<'a, W: Write>(
     Ok(true)
 }
 
-/// Delivers a file, prints a line for it, and says whether it was taken. What is no regular file, as a pipe, has no length
+/// Delivers a file, prints a line for it, and says whether it was taken. What is no regular file, such as a pipe, has no length
 /// beforehand, and is read whole.
 fn put_file<'a, R: Files + AllocGlobal, K: Keeper, W: Write, E: Write>(
     rt: &R,
@@ -116,7 +116,7 @@ fn put_file<'a, R: Files + AllocGlobal, K: Keeper, W: Write, E: Write>(
     Ok(is_taken)
 }
 
-/// How many bytes the regular files among these have.
+/// The number of bytes of the regular files among these.
 fn size_of_all<R: Files>(rt: &R, paths: &[&str]) -> u64 {
     let mut size: u64 = 0;
     for path in paths {
@@ -125,7 +125,7 @@ fn size_of_all<R: Files>(rt: &R, paths: &[&str]) -> u64 {
     size
 }
 
-/// Delivers the file at a path, if that is none of the database's own, prints a line for it, and says whether it was taken.
+/// Delivers the file at a path, unless it belongs to the database itself, prints a line for it, and says whether it was taken.
 fn put_other<'a, R: Files + AllocGlobal, K: Keeper, W: Write, E: Write>(
     rt: &R,
     archive: &mut Archive<K>,
@@ -140,9 +140,9 @@ fn put_other<'a, R: Files + AllocGlobal, K: Keeper, W: Write, E: Write>(
     put_file(rt, archive, opening.at, path, out, progress)
 }
 
-/// Delivers files, each under the text behind its path's last slash, and prints a line for each. It goes on behind a file that is
-/// refused, and says whether all were taken. Each file is read while it is delivered. The files of the database itself can't be read. How
-/// many bytes are delivered is shown; what is no regular file counts none.
+/// Delivers files, each under the text after its path's last slash, and prints a line for each. It goes on after a file that is refused,
+/// and says whether all were taken. Each file is read while it is delivered. The files of the database itself can't be read. The number
+/// of delivered bytes is shown; what is no regular file does not count.
 pub fn put_files<'a, R: Files + AllocGlobal, K: Keeper, W: Write, E: Write>(
     rt: &R,
     archive: &mut Archive<K>,
@@ -163,8 +163,8 @@ pub fn put_files<'a, R: Files + AllocGlobal, K: Keeper, W: Write, E: Write>(
     Ok(all)
 }
 
-/// Runs the queue at a moment, and prints the lines of the report. It says whether all uploads were taken that count: where it is strict,
-/// those that the run judged.
+/// Runs the queue at a moment, and prints the lines of the report. If it is strict it says whether all uploads that the run judged were
+/// taken.
 pub fn run<'a, K: Keeper, W: Write>(
     alloc: Global,
     archive: &mut Archive<K>,
@@ -223,8 +223,8 @@ fn owned_sources(
     }
 }
 
-/// Copies several sources from the suite `from` to the suite `to` in one change at a moment, and prints a line for each: how
-/// many items of `to` are new, or that it is refused. Says whether none was.
+/// Copies several sources from the suite `from` to the suite `to` in one change at a moment, and prints a line for each: how many items
+/// of `to` are new, or that it is refused. It says whether no source was refused.
 pub fn promote<'a, K: Keeper, W: Write>(
     alloc: Global,
     archive: &mut Archive<K>,
@@ -254,7 +254,7 @@ pub fn remove<'a, K: Keeper, W: Write>(
     Ok(())
 }
 
-/// Takes away each arrival that does not count any more at a moment, and prints how many there were.
+/// Takes away each arrival that no longer counts at a moment, and prints how many there were.
 pub fn clean<'a, K: Keeper, W: Write>(
     alloc: Global,
     archive: &mut Archive<K>,
@@ -284,7 +284,7 @@ pub fn show<'a, K: Keeper, W: Write>(
     }
 }
 
-/// An object of JSON for each upload that has no verdict, of what counts at a moment.
+/// An object of JSON for each upload that has no verdict, by what counts at a moment.
 fn waiting_objects<K: Keeper>(
     alloc: Global,
     archive: &mut Archive<K>,
@@ -342,7 +342,7 @@ pub fn verdicts<'a, K: Keeper, W: Write>(
     Ok(())
 }
 
-/// What a suite shows, by its codename, and its position in the configuration. Refused for a codename that no suite has.
+/// What a suite shows, by its codename, and its position in the configuration. It is refused for a codename that no suite has.
 fn shelves_of<K: Keeper>(
     alloc: Global,
     archive: &mut Archive<K>,
@@ -373,7 +373,7 @@ fn shown_texts(
     }
 }
 
-/// Prints a line for each item that a suite shows, by its codename, or an object of JSON. Refused for a codename that no suite has.
+/// Prints a line for each item that a suite shows, by its codename, or an object of JSON. It is refused for a codename that no suite has.
 pub fn list<'a, K: Keeper, W: Write>(
     alloc: Global,
     archive: &mut Archive<K>,
@@ -389,8 +389,8 @@ pub fn list<'a, K: Keeper, W: Write>(
     Ok(())
 }
 
-/// Gives an archive another configuration at a moment, in seconds since 1970-01-01 00:00:00 UTC. It is refused where something that is
-/// shown would not be kept.
+/// Gives an archive another configuration at a moment, in seconds since 1970-01-01 00:00:00 UTC. It is refused if something that is shown
+/// would not be kept.
 pub fn configure<'a, K: Keeper>(
     alloc: Global,
     archive: &mut Archive<K>,
@@ -399,14 +399,14 @@ pub fn configure<'a, K: Keeper>(
 ) -> Result<(), Stop<'a>>
     requires in_time { at ≤ latest }
     ensures endures { Endures K.Keeper archive.old.keeper archive.new.keeper }
-    // Done, all that is shown was kept, and the archive goes on under the configuration.
+    // If it is done, the configuration keeps all that is shown.
     ensures kept { K.is_clean archive.new.keeper → OnOk result (keeps_shown config (K.book archive.old.keeper) ≡ true) }
     ensures book { K.is_clean archive.new.keeper → OnOk result (K.book archive.new.keeper ≡ configured config at (K.book archive.old.keeper)) }
     // A refusal leaves the book as it was.
     ensures err { OnErr result (IsUndone K.Keeper archive.old.keeper archive.new.keeper) }
-    // K5 comes only where something that is shown would not be kept.
+    // K5 comes only if something that is shown would not be kept.
     ensures differs { K.is_clean archive.new.keeper → IfErr result (λ stop. stop ≡ NoArchive NotKept → keeps_shown config (K.book archive.old.keeper) ≡ false) }
-    // What is told is the fault: that, or one of the keeper's own.
+    // The fault that is reported is that one, or one of the keeper's own.
     ensures cause { IfErr result (λ stop. (stop ≡ NoArchive NotKept) ⊎ ((fault : KeepersFault) × (stop ≡ NoArchive fault) × MayAnswer K.may_fail fault)) }
     // A crash leaves what it would have left before, or the configured book.
     ensures crash { LeavesConfigured K.Keeper archive.old.keeper config at archive.new.keeper }

@@ -1,4 +1,5 @@
-//! Progress on standard error, where that is a terminal: how far a command is, in one line that is written over itself, and erased before
+//! Progress on standard error, if that is a terminal: how far a command is, in one line that is written over itself. The line is erased
+//! before any other line and at the end. Elsewhere nothing is written. A line that can't be written changes nothing.
 //! any other line and at the end. Elsewhere nothing is written. That it can't be written changes nothing.
 
 ghost use Rattle.std.specs.Prelude.{◌≡◌, ◌≤◌, IfOk, string_bytes};
@@ -9,13 +10,13 @@ use std::alloc::{AllocError, Global};
 use std::io::{self, IsTerminal, Write};
 use std::time::Instant;
 
-/// How long a line stands at least before the next, in milliseconds. A command that is done sooner has none.
+/// The least time between two lines, in milliseconds. A command that is done sooner has no line.
 const BETWEEN_LINES: u128 = 100;
 
 /// The fewest bytes of a database whose opening has a line: 32 MiB.
 const LONG_OPENING: u64 = 33_554_432;
 
-/// How much of all is done, in percent, rounded down; 100 also of nothing, and where more is done than was expected.
+/// The part of all that is done, in percent, rounded down. It is 100 if there is nothing to do, or if more is done than was expected.
 #[tactic(auto, unfolding(crate::specs::Progress::percent))]
 fn percent(done: u64, all: u64) -> u128
     ensures { result ≡ percent_of done all }
@@ -26,7 +27,7 @@ fn percent(done: u64, all: u64) -> u128
     done as u128 * 100 / all as u128
 }
 
-/// The line of a command: its name, how much is done in percent, how many of how many, and what is counted.
+/// The line of a command: its name, the part that is done in percent, the number that is done of the number of all, and what is counted.
 fn line_of(
     alloc: Global,
     command: &str,
@@ -49,11 +50,11 @@ pub struct Progress<'p, E> {
     counted: &'p str,
     done: u64,
     all: u64,
-    /// When a line was written last, or the command began. None where nothing is shown.
+    /// When a line was last written, or when the command began. `None` if nothing is shown.
     last: Option<Instant>,
-    /// Whether what is printed comes to a terminal, too, so that a line can't stand there meanwhile.
+    /// Whether what is printed also goes to a terminal, so that no line can be there meanwhile.
     is_shared: bool,
-    /// How many bytes the line has that stands.
+    /// The number of bytes of the line that is shown.
     width: usize,
 }
 
@@ -88,12 +89,12 @@ impl<'p, E: Write> Progress<'p, E> {
         self.last.is_some()
     }
 
-    /// So many more are to be done.
+    /// Adds `more` to what is to be done.
     pub fn expect(&mut self, more: u64) {
         self.all = self.all.saturating_add(more);
     }
 
-    /// Whether the line that stands has stood long enough.
+    /// Whether the line has been shown long enough.
     fn is_due(&self) -> bool {
         match self.last {
             Some(last) => match last.elapsed(self.rt) {
@@ -104,7 +105,8 @@ impl<'p, E: Write> Progress<'p, E> {
         }
     }
 
-    /// Writes a line over the one that stands. It is at least as long, since what it counts only grows. Without memory for it there is none.
+    /// Writes a line over the one that is shown. The new line is at least as long, since what it counts only grows. Without memory for it no
+    /// line is written.
     fn show(&mut self, line: Result<String, AllocError>) {
         if let Ok(line) = line {
             let _ = write!(self.err, "\r{line}");
@@ -113,7 +115,7 @@ impl<'p, E: Write> Progress<'p, E> {
         self.last = Instant::now(self.rt).ok();
     }
 
-    /// Writes that so many are to be gone through by one call, where these are enough for it to take long.
+    /// Writes that one call has `count` to go through, if that is enough for it to take long.
     pub fn announce(&mut self, count: u64) {
         if self.is_shown() && count >= LONG_OPENING {
             let (command, counted) = (self.command, self.counted);
@@ -121,7 +123,7 @@ impl<'p, E: Write> Progress<'p, E> {
         }
     }
 
-    /// So many more are done.
+    /// Adds `more` to what is done.
     pub fn advance(&mut self, more: u64) {
         self.done = self.done.saturating_add(more);
         if self.is_due() {
@@ -141,7 +143,7 @@ impl<'p, E: Write> Progress<'p, E> {
         self.width = 0;
     }
 
-    /// Erases the line, if what is printed next comes to a terminal, too.
+    /// Erases the line, if what is printed next also goes to a terminal.
     pub fn give_way(&mut self) {
         if self.is_shared {
             self.clear();

@@ -1,7 +1,7 @@
-//! Names, words and lines that others chose, as they are printed.
+//! How names, words and lines that others chose are printed.
 //!
-//! Letters of other scripts stay. What clap says of words that are no line quotes them, so it is asked once more with the words as they are
-//! shown, for the text alone. Bytes of files are printed as they are.
+//! Letters of other scripts stay. When words are no line, clap quotes them in its text. So it is asked once more for this text, with the
+//! words as they are shown. Bytes of files are printed as they are.
 
 use std::alloc::{AllocError, Global};
 use std::fmt;
@@ -9,8 +9,8 @@ use std::fmt;
 /// What is printed in place of a character that is not shown.
 const MARK: char = '?';
 
-/// A name or a word as it is printed: a question mark stands for each control character, which is one of U+0000 to U+001F or of U+007F
-/// to U+009F. So it forges no line, and is no command to a terminal.
+/// A name or a word as it is printed: a question mark replaces each control character, which is one of U+0000 to U+001F or of U+007F to
+/// U+009F. So it can't forge a line, and is no command to a terminal.
 #[derive(Clone, Copy, Debug)]
 pub struct Shown<'s>(pub &'s str);
 
@@ -28,7 +28,7 @@ impl fmt::Display for Shown<'_> {
     }
 }
 
-/// The same of a name that is kept.
+/// A name as it is printed, which is kept.
 #[derive(Debug, Drop)]
 pub struct OwnedShown(pub String);
 
@@ -38,7 +38,7 @@ impl fmt::Display for OwnedShown {
     }
 }
 
-/// Bytes of which nothing is known, as they are printed: a question mark stands for each that is not of 0x20 to 0x7E.
+/// Unknown bytes as they are printed: a question mark replaces each byte that is not in 0x20 to 0x7E.
 pub fn shown_bytes(alloc: Global, bytes: &[u8]) -> Result<String, AllocError> {
     let mut text = String::new(alloc);
     for byte in bytes {

@@ -1,7 +1,7 @@
-//! Why uploads have the verdicts that they have, and what those lack that wait.
+//! Why uploads have their verdicts, and what the waiting uploads lack.
 //!
-//! An archive keeps verdicts, and not why they were given: that is found again from the files of an upload, by the configuration and by
-//! what the suites show today. Where today's verdict is another, that is said, and of the older one nothing but its number.
+//! An archive keeps verdicts, but not the reasons for them. A reason is found again from the files of an upload, by the configuration and
+//! by what the suites show today. If today's verdict differs, that is said, and only the number of the older verdict is given.
 
 ghost use Rattle.queue.specs.Steps.{Reads};
 
@@ -17,12 +17,12 @@ use std::alloc::{AllocError, Global};
 use std::io::Write;
 use suites::Shelves;
 
-/// Which uploads are asked for, and how they are told.
+/// Which uploads are asked for, and how they are printed.
 #[derive(Clone, Copy)]
 pub struct Asked<'n> {
     /// The moment, in seconds since 1970-01-01 00:00:00 UTC.
     pub at: u64,
-    /// The name of a .changes. Without it, all uploads that wait are told.
+    /// The name of a .changes. Without it, all uploads that wait are printed.
     pub name: Option<&'n str>,
     /// Whether each upload is a line of JSON.
     pub json: bool,
@@ -36,7 +36,7 @@ impl<'n> Asked<'n> {
     }
 }
 
-/// The files that arrived in an archive, the uploads that were judged and that wait, and what counts.
+/// The files that arrived in an archive, the uploads that were judged, the uploads that wait, and what counts.
 #[derive(Drop)]
 struct Course {
     arrived: Vec<ArrivedFile>,
@@ -86,7 +86,7 @@ fn course_of<K: Keeper>(alloc: Global, archive: &mut Archive<K>, at: u64) -> Res
     })
 }
 
-/// What an upload lacks that waits. There is nothing to say if its .changes is gone.
+/// What a waiting upload lacks. There is nothing to say if its .changes is gone.
 fn lacks_in<K: Keeper>(
     alloc: Global,
     archive: &mut Archive<K>,
@@ -103,7 +103,7 @@ fn lacks_in<K: Keeper>(
     Ok(Some(lacks_of(alloc, &course.arrived, course.counting, entries)?))
 }
 
-/// Prints an upload that waits, and what it lacks.
+/// Prints a waiting upload, and what it lacks.
 fn print_waiting<'a, W: Write>(
     alloc: Global,
     upload: &WaitingUpload,
@@ -191,7 +191,7 @@ fn print_answer<'a, W: Write>(
     Ok(())
 }
 
-/// Prints why a judged upload has its verdict, as it is found in an archive.
+/// Prints why a judged upload has its verdict, from what an archive has.
 fn print_judged<'a, K: Keeper, W: Write>(
     alloc: Global,
     archive: &mut Archive<K>,
@@ -236,8 +236,8 @@ fn print_all_judged<'a, K: Keeper, W: Write>(
     Ok(true)
 }
 
-/// Prints why the uploads of a name have their verdicts, and what those lack that wait; without a name, what each upload lacks that waits.
-/// A name that no upload has is not found. The archive is only read.
+/// Prints why the uploads of a name have their verdicts, and what those that wait lack; without a name, what each waiting upload lacks. A
+/// name that no upload has is not found. The archive is only read.
 #[tactic(auto, using(keep::proofs::ReadLemmas::reads_none, keep::proofs::ReadLemmas::reads_more))]
 pub fn tell<'a, K: Keeper, W: Write>(
     alloc: Global,

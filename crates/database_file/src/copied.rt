@@ -1,7 +1,7 @@
-//! What a database file and the log beside it hold, copied into memory. Both are only read: nothing is written to them or made beside them, so
-//! that they may be files which this process may not write.
+//! A copy in memory of a database file and the log beside it. Both are only read: nothing is written to them or made beside them, so this
+//! process need not be allowed to write them.
 //!
-//! The older file is locked against whoever writes it by SQLite's lock of readers, for as long as it is copied.
+//! While the older file is copied, SQLite's lock of readers keeps out whoever writes it.
 
 use crate::database::{BETWEEN_TRIES, TRIES};
 use keep::KeepFault;
@@ -16,14 +16,14 @@ use std::os::unix::fs::MetadataExt;
 use std::thread;
 use std::time::Duration;
 
-/// Where the bytes of a database file begin that SQLite and this program lock.
+/// The offset of the bytes of a database file that SQLite and this program lock.
 const FIRST_LOCKED: u64 = 1 << 30;
 
-/// How many there are.
+/// The number of these bytes.
 const LOCKED: u64 = 512;
 
-/// Locks a file against whoever writes to it, until it is closed. It says whether that is done, which it is not while another process has
-/// the file.
+/// Locks a file against whoever writes to it, until it is closed. It says whether the file is locked: it is not while another process holds
+/// it.
 fn is_locked(file: &File) -> io::Result<bool> {
     let shared = RangeLock::Shared;
     if os::try_lock_range(file.as_raw_fd(), shared, FIRST_LOCKED, LOCKED) == 0 {
@@ -36,7 +36,7 @@ fn is_locked(file: &File) -> io::Result<bool> {
     Err(error)
 }
 
-/// Locks a file. One that another process has is waited for, up to 10 seconds.
+/// Locks a file. If another process holds the file, it waits for up to 10 seconds.
 fn lock(rt: &HostRuntime, file: &File) -> io::Result<()> {
     for _ in 0..TRIES {
         if is_locked(file)? {
@@ -47,7 +47,7 @@ fn lock(rt: &HostRuntime, file: &File) -> io::Result<()> {
     Err(ErrorKind::WouldBlock.into())
 }
 
-/// A regular file with one name, open to be read. The log of one with two names may lie beside the other.
+/// A regular file with one name, open to be read. If a file had two names its log might lie beside the other.
 fn opened(rt: &HostRuntime, path: &str) -> io::Result<File> {
     let named = fs::symlink_metadata(rt, path)?;
     if !named.is_file() || named.nlink() != 1 {
@@ -56,7 +56,7 @@ fn opened(rt: &HostRuntime, path: &str) -> io::Result<File> {
     File::open(rt, path)
 }
 
-/// The bytes of a file beside a database, whose name ends so; none where it is not there.
+/// The bytes of a file beside a database whose name has this ending. There are none if the file is not there.
 fn beside(rt: &HostRuntime, path: &str, end: &str) -> io::Result<Vec<u8>> {
     let name = format!(in rt.alloc(); "{path}{end}")?;
     match opened(rt, name.as_str()) {
@@ -80,12 +80,12 @@ fn file_of(alloc: Global, bytes: &[u8]) -> io::Result<Memory> {
     Ok(file)
 }
 
-/// Whether SQLite left a journal beside a database, behind a change that was cut short.
+/// Whether SQLite left a journal beside a database, after a change that was cut short.
 fn has_journal(rt: &HostRuntime, path: &str) -> io::Result<bool> {
     Ok(!matches!(beside(rt, path, "-journal")?.first(), None | Some(0)))
 }
 
-/// The files of a database in memory, of which one is open. A journal that SQLite left is for SQLite alone.
+/// The files of a database in memory; `file` is its open file. A journal that SQLite left can be read by SQLite alone.
 fn files_beside(rt: &HostRuntime, path: &str, file: &mut File) -> io::Result<Files<Memory>> {
     if has_journal(rt, path)? {
         return Err(ErrorKind::Unsupported.into());
@@ -106,8 +106,8 @@ fn files_of(rt: &HostRuntime, path: &str) -> io::Result<Files<Memory>> {
     files_beside(rt, real.as_str(), &mut file)
 }
 
-/// The files of a database in memory, with what the file at the path and the log beside it hold. What SQLite takes for another name than
-/// that of a file is refused.
+/// The files of a database in memory, with the contents of the file at the path and of the log beside it. A path that SQLite does not take for
+/// the name of a file is refused.
 pub fn copied(rt: &HostRuntime, path: &str) -> Result<Files<Memory>, KeepFault> {
     if path == ":memory:" || path.starts_with("file:") {
         return Err(KeepFault::Disk);

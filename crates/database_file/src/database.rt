@@ -1,23 +1,24 @@
 //! The keeper over the tables of a database file.
 //!
-//! A database that another process has is tried again for 10 seconds, so that two timers that meet do not fail.
+//! If another process holds a database, opening it is tried again for 10 seconds, so that two timers that meet do not fail.
 //!
-//! Nothing is supposed of a write that a crash tears, so each commit syncs twice.
+//! Nothing is assumed about a write that a crash tears, so each commit syncs twice.
 //!
-//! While a command goes on, the log takes 64 MiB before the next change copies it into the database file first. SQLite's own measure is 4
-//! MiB. By that each upload after an index of 4 MiB would copy the whole index once more, and the first after a long run all that the run
-//! wrote. A transaction holds as many pages in memory before they go to the log, so that a page that it writes often goes there once.
+//! During a command the log takes up to 64 MiB before the next change copies it into the database file first. SQLite's own limit is 4 MiB.
+//! With that limit each upload after an index of 4 MiB would copy the whole index once more, and the first upload after a long run all that
+//! the run wrote. A transaction holds as many pages in memory before they go to the log, so a page that it writes often goes there once.
 //!
-//! A command that ends copies the log into the database file. That this fails is no fault: all is kept in the log, and the next open reads
-//! both.
+//! At the end of a command the log is copied into the database file. If this fails it is no fault: all is kept in the log, and the next
+//! open reads both.
 //!
-//! An opening begins a log beside the database file, also of a database that it then refuses. The database file itself stays as it was, but
-//! for an empty one and one of a single byte: the store takes these for a database that it has begun, and makes one without tables of it.
+//! An opening begins a log beside the database file, also of a database that it then refuses. The database file itself stays as it was,
+//! except an empty file and a file of a single byte: the store takes these for a database that it has begun, and makes a database without
+//! tables of it.
 //!
-//! A keeper is shut by a sync that failed, by a write of the log's header, and by the write of the one byte after which a commit counts:
-//! only reading the files again shows whether that is on the disk. Then each call answers K2, until the archive is opened again. After any
-//! other write or read that failed the same archive goes on. The store's clauses count failures and do not tell them apart, so this is
-//! tested, over files that fail at each call.
+//! Three failures shut a keeper: that of a sync, that of a write of the log's header, and that of the write of the one byte after which a
+//! commit counts. Only reading the files again shows whether that byte is on the disk. Then each call answers K2, until the archive is
+//! opened again. After any other write or read that failed the archive goes on. The store's clauses count failures and do not distinguish
+//! them, so this is tested, over files that fail at each call.
 
 ghost use Rattle.std.specs.Prelude.{◌≤◌};
 
@@ -83,14 +84,14 @@ impl InFile<FileKeeper> for DatabaseFile {
     }
 }
 
-/// How often a database that another process holds is tried again.
+/// The number of tries to open a database that another process holds.
 pub const TRIES: u32 = 100;
 
-/// How many milliseconds are waited after each try: 10 seconds in all.
+/// The number of milliseconds to wait after each try: 10 seconds in all.
 pub const BETWEEN_TRIES: u64 = 100;
 
-/// How many pages of 4,096 bytes the log beside the database file takes before it is copied into that, and how many a transaction writes
-/// before they go to the log: 64 MiB.
+/// The number of pages of 4,096 bytes that the log beside the database file takes before it is copied into that file, and that a
+/// transaction writes before they go to the log: 64 MiB.
 const LOG_PAGES: usize = 16_384;
 
 /// How a database file is read and written, with a random number for its log.
@@ -105,8 +106,8 @@ fn options(rt: &HostRuntime) -> Result<Options, KeepFault> {
     })
 }
 
-/// The connection to the database of a file, none while another process holds it, or why there is none. What SQLite takes for another
-/// name than that of a file is refused.
+/// The connection to the database of a file, `None` while another process holds it, or why there is no connection. A path that SQLite does
+/// not take for the name of a file is refused.
 fn connect_once(
     rt: &HostRuntime,
     path: &str,
@@ -130,7 +131,7 @@ fn connect_once(
     }
 }
 
-/// The connection to the database of a file. One that another process holds is waited for, up to 10 seconds.
+/// The connection to the database of a file. If another process holds the file, it waits for up to 10 seconds.
 fn connect(
     rt: &HostRuntime,
     path: &str,
@@ -152,12 +153,12 @@ fn connection_of<S: Alter + Drop>(keeper: TableKeeper<S>) -> Connection<S> {
     keeper.into_connection()
 }
 
-/// Copies the log into the database file, where that does not fail, and closes both.
+/// Copies the log into the database file, unless that fails, and closes both.
 fn disconnect<D: Disk + Drop>(connection: Connection<FileStore<D>>) {
     let _ = connection.close();
 }
 
-/// Why no archive is opened of tables that are not those of one, and say that they are of this layout. The first is 1.
+/// Why no archive is opened from tables that are not those of an archive, and say that they are of this layout. The first layout is 1.
 fn fault_of_layout(layout: u64) -> OpenFault {
     match layout.cmp(&LAYOUT) {
         Ordering::Less if layout > 0 => OpenFault::Older(layout),
@@ -166,8 +167,8 @@ fn fault_of_layout(layout: u64) -> OpenFault {
     }
 }
 
-/// Why no archive of a database is opened, where the keeper has this fault. Tables that are not those of an archive are asked for their
-/// layout.
+/// Why no archive of a database is opened, if the keeper has this fault. If the tables are not those of an archive, their layout is looked
+/// up.
 fn open_fault<S: Alter>(connection: &mut Connection<S>, fault: KeepFault) -> OpenFault {
     if fault != KeepFault::NoArchive {
         return OpenFault::Keeper(fault);
@@ -210,7 +211,7 @@ fn made_over<S: Alter + Drop>(
     }
 }
 
-/// What the archive of an older layout holds that files hold which were copied.
+/// The contents of the archive of an older layout in files that were copied.
 fn old_over<D: Disk + Drop>(
     alloc: Global,
     files: Result<Files<D>, KeepFault>,
@@ -225,7 +226,7 @@ fn old_over<D: Disk + Drop>(
     }
 }
 
-/// A keeper of a new archive of the configuration, made in a database of what one of an older layout holds.
+/// A keeper of a new archive of the configuration, made in a database from the contents of an archive of an older layout.
 fn migrated_over<S: Alter + Drop>(
     alloc: Global,
     connection: Result<Connection<S>, KeepFault>,

@@ -1,4 +1,4 @@
-//! The first thing to see of an archive: it takes the files of an upload, judges it, and prints the index that shows it.
+//! A first look at an archive: it takes the files of an upload, judges it, and prints the index that shows it.
 //!
 //! The archive is in memory and has one suite, `box`. The words are the paths of the files.
 #![tactic(auto)]
@@ -46,7 +46,7 @@ fn box_archive(alloc: Global) -> Result<Archive<PlainKeeper>, Fault> {
     }
 }
 
-/// The text behind a path's last slash.
+/// The text after a path's last slash.
 fn file_name(path: &str) -> &str {
     match path.rsplit_once('/') {
         Some((_, name)) => name,
@@ -86,7 +86,7 @@ fn index_of<R: Files + AllocGlobal, K: Keeper>(
     Ok(judged(rt.alloc(), archive)?)
 }
 
-/// The same with an archive of their own.
+/// Delivers the files at these paths to an archive of their own, and answers the index of what was accepted.
 fn own_index_of(rt: &HostRuntime, paths: &[String]) -> Result<Vec<u8>, Stop> {
     let mut archive = box_archive(rt.alloc())?;
     index_of(rt, &mut archive, paths)

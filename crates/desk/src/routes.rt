@@ -77,7 +77,7 @@ fn router(alloc: Global) -> Result<Router<Route>, InsertError>
     Ok(router)
 }
 
-/// What answers requests: the router of all routes, which is made once and serves any number of connections.
+/// The desk that answers requests. Its router of all routes is made once and serves any number of connections.
 #[derive(Drop)]
 pub struct Desk {
     router: Router<Route>,

@@ -8,7 +8,7 @@ use Rattle.exported.specs.declared.manifest.Shown.{Shown}
 use Rattle.exported.specs.declared.manifest.Word.{Word}
 use Rattle.exported.specs.declared.manifest.Word.TheVariants.{Here, Coming, Left}
 
--- the decimal digits of a number, with zeros in front up to nine
+-- the decimal digits of a number, with leading zeros up to nine digits
 abbrev pub nine_digits : ℕ → List ℕ
 nine_digits n = styled_decimal (format_spec 32 0 4 9 18446744073709551615) n
 
@@ -24,7 +24,7 @@ path_line path Left = codes "left " ++ path
 unfoldable pub states_line : List ℕ → List ℕ → List ℕ → List ℕ
 states_line codename state last = codes "shown " ++ (codename ++ (codes " " ++ (state ++ (codes " " ++ last))))
 
--- the word on the state before: its name, or `-` where it is not known
+-- the word for the state before: its name, or `-` if it is not known
 abbrev pub word_before : Option (String Global) → List ℕ
 word_before (Some state) = string_bytes state
 word_before None = codes "-"

@@ -1,4 +1,4 @@
--- Names in a tree: the folder of a state, and which paths are of files of the pool.
+-- Names in a tree: the folder of a state, and the paths that belong to files of the pool.
 use Rattle.std.specs.Prelude.{ℕ, nat_eq, nat_lt, Bool, ◌&&◌, not, List, ◌++◌, take, codes, string_bytes}
 use Rattle.std.specs.List.{list_all, slice_split, starts_with}
 use Rattle.std.specs.Str.{bytes_eq}
@@ -23,10 +23,10 @@ is_part part = not (bytes_eq part (codes "")) && not (bytes_eq part (codes "."))
 abbrev pub ends_part : ℕ → Bool
 ends_part c = nat_eq c 47
 
--- a path of a file below `pool`, which leads to no other place: it begins with `pool/`, and each of its parts names something
+-- a path of a file below `pool`, which leads nowhere else: it begins with `pool/`, and each of its parts names something
 unfoldable pub is_pool_path : List ℕ → Bool
 is_pool_path path = starts_with nat_eq path (codes "pool/") && list_all is_part (slice_split ends_part path)
 
--- each key of a map with these entries is such a path
+-- each key of a map with these entries is the path of a file below `pool`
 abbrev pub have_pool_paths : {V : Type 0} → List (String Global × V) → Bool
 have_pool_paths entries = list_all (λ entry. is_pool_path (string_bytes entry.0)) entries

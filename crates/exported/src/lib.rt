@@ -1,4 +1,4 @@
-//! What an export leaves in a tree of files, as texts: the paths and names in it, and the manifest for the next export.
+//! Texts of what an export leaves in a tree of files: the paths and names in it, and the manifest for the next export.
 #![tactic(auto)]
 
 mod manifest;

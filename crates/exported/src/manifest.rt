@@ -1,4 +1,4 @@
-//! What an export leaves in writing for the next one: the manifest.
+//! The manifest: what an export writes down for the next one.
 //!
 //! ```text
 //! boqitsel files 1
@@ -8,8 +8,8 @@
 //! left PATH                               no file of the pool since an export that showed something
 //! ```
 //!
-//! A manifest with any other line is passed over whole: then all is compared, and nothing is removed. A line is read only if it is
-//! what would be written, to the byte.
+//! A manifest with any other line is ignored as a whole: then all files are compared, and nothing is removed. A line is read only
+//! if it is what would be written, to the byte.
 
 ghost use Rattle.std.specs.Prelude.{◌≡◌, true, IfOk, IfSome, string_bytes};
 ghost use Rattle.std.specs.List.{list_all};
@@ -26,14 +26,14 @@ use std::collections::BTreeMap;
 /// The first line of a manifest.
 const FIRST: &str = "boqitsel files 1";
 
-/// When a file was modified last, in seconds and nanoseconds since 1970-01-01 00:00:00 UTC. What is before that counts as that.
+/// When a file was last modified, in seconds and nanoseconds since 1970-01-01 00:00:00 UTC. An earlier time counts as that moment.
 #[derive(Clone, Copy, Debug, PartialEq, Eq)]
 pub struct Stamp {
     pub seconds: u64,
     pub nanos: u32,
 }
 
-/// The contents of a file that an export has written or compared, and when it was modified then.
+/// The contents of a file that an export has written or compared, and when the file was modified then.
 #[derive(Clone, Copy, PartialEq, Eq)]
 pub struct Vouched {
     pub sha256: [u8; 32],
@@ -48,18 +48,18 @@ pub enum Word {
     Here(Vouched),
     /// The file was about to be written.
     Coming,
-    /// No file of the pool stands there since an export that showed something.
+    /// No file of the pool has been there since an export that showed something.
     Left,
 }
 
-/// What is known of a path, and the line that says so, so that it is not made anew for each text.
+/// What is known of a path, and the line that says it, which is kept so that it is not made anew for each text.
 #[derive(Drop)]
 pub struct Known {
     word: Word,
     line: String,
 }
 
-/// The states of a suite: the one that was shown, and the one that was shown before it, where it is known.
+/// The states of a suite: the one that was shown, and the one that was shown before it, if it is known.
 #[derive(Drop)]
 pub struct Shown {
     pub state: String,
@@ -67,7 +67,7 @@ pub struct Shown {
 }
 
 impl Shown {
-    /// The state that was shown before, where it is known.
+    /// The state that was shown before, if it is known.
     pub fn before(&self) -> Option<&str> {
         match &self.before {
             Some(before) => Some(before.as_str()),
@@ -86,7 +86,7 @@ impl Shown {
 pub struct Manifest {
     words: BTreeMap<String, Known>,
     shown: BTreeMap<String, Shown>,
-    /// Whether something is other than it was read.
+    /// Whether something differs from what was read.
     is_changed: bool,
     // No path leads out of the pool.
     ghost within: { have_pool_paths words.entries ≡ true },
@@ -117,7 +117,7 @@ fn here_line(alloc: Global, path: &str, vouched: Vouched) -> Result<String, Allo
     format!(in alloc; "here {digest} {size} {seconds}.{nanos} {path}")
 }
 
-/// The line of a path, without its newline.
+/// The line of a path and what is known of it, without its newline.
 #[tactic(auto, unfolding(crate::specs::Lines::path_line))]
 fn path_line(alloc: Global, path: &str, word: Word) -> Result<String, AllocError>
     ensures { IfOk result (λ line. string_bytes line ≡ line_of_path path.now word) }
@@ -162,7 +162,7 @@ fn stamp_in(text: &str) -> Option<Stamp> {
     })
 }
 
-/// What the words behind `here` say, and their path.
+/// What the words after `here` say, and their path.
 fn vouched_in(rest: &str) -> Option<(&str, Word)> {
     let (digest, rest) = rest.split_once(' ')?;
     let (size, rest) = rest.split_once(' ')?;
@@ -186,7 +186,7 @@ fn words_in(line: &str) -> Option<(&str, Word)> {
     }
 }
 
-/// What a line says of a path, where it is the line that would be written of that, and the path is one of a file of the pool.
+/// What a line says of a path, if it is the line that would be written for it, and the path is that of a file of the pool.
 fn path_in_line(alloc: Global, line: &str) -> Result<Option<(&str, Word)>, AllocError>
     ensures written { IfOk result (λ found. IfSome found (λ at. line.now ≡ line_of_path at.0.now at.1)) }
     ensures within { IfOk result (λ found. IfSome found (λ at. is_path_in_pool at.0.now ≡ true)) }
@@ -202,7 +202,7 @@ fn path_in_line(alloc: Global, line: &str) -> Result<Option<(&str, Word)>, Alloc
     Ok(None)
 }
 
-/// The words behind `shown` of a line: a codename, a state, and the one before or `-`.
+/// The words after `shown` of a line: a codename, a state, and the one before or `-`.
 fn shown_in_line(line: &str) -> Option<(&str, &str, &str)> {
     let rest = line.strip_prefix("shown ")?;
     let (codename, rest) = rest.split_once(' ')?;
@@ -319,7 +319,7 @@ impl Manifest {
         Some(known.word)
     }
 
-    /// Says something of a path. Of one that is none of a file of the pool nothing is said.
+    /// Records what is known of a path. Nothing is recorded for a path that is not that of a file of the pool.
     pub fn set(&mut self, alloc: Global, path: &str, word: Word) -> Result<(), AllocError> {
         if self.word(path) == Some(word) || !is_pool_path(path) {
             return Ok(());
@@ -330,7 +330,7 @@ impl Manifest {
         Ok(())
     }
 
-    /// Knows nothing of a path any more.
+    /// Forgets a path.
     pub fn forget(&mut self, path: &str) {
         if self.words.remove(path).is_some() {
             self.is_changed = true;
@@ -347,14 +347,14 @@ impl Manifest {
         &self.shown
     }
 
-    /// Knows nothing of a suite any more.
+    /// Forgets a suite.
     pub fn forget_states(&mut self, codename: &str) {
         if self.shown.remove(codename).is_some() {
             self.is_changed = true;
         }
     }
 
-    /// Says what a suite shows.
+    /// Records what a suite shows.
     pub fn set_shown(
         &mut self,
         alloc: Global,
@@ -377,7 +377,7 @@ impl Manifest {
         &self.words
     }
 
-    /// The paths that were left. None of them leads out of the pool.
+    /// The paths that were left. All of them are in the pool.
     #[tactic(auto, using(crate::proofs::PathLemmas::first_within, crate::proofs::PathLemmas::rest_within, crate::proofs::PathLemmas::pushed_within))]
     pub fn left(&self, alloc: Global) -> Result<Vec<Text>, AllocError>
         ensures within { IfOk result (λ left. list_all is_path_in_pool left.items ≡ true) }
@@ -391,12 +391,12 @@ impl Manifest {
         Ok(left)
     }
 
-    /// Whether something is other than it was read or written.
+    /// Whether something differs from what was read or written.
     pub fn is_changed(&self) -> bool {
         self.is_changed
     }
 
-    /// It is written as it is.
+    /// Records that the manifest is written as it is.
     pub fn set_written(&mut self) {
         self.is_changed = false;
     }

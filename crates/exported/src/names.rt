@@ -11,7 +11,7 @@ use sums::print_of;
 /// The folder of what exports keep for themselves.
 pub const OWN: &str = ".boqitsel";
 
-/// How many hexadecimal digits of a Release's SHA-256 the name of its state has.
+/// The number of hexadecimal digits of a Release's SHA-256 in the name of its state.
 const ID_DIGITS: usize = 32;
 
 /// The folder that a file at a path lies in.
@@ -58,7 +58,7 @@ pub fn is_state_of(codename: &str, name: &str) -> bool {
     }
 }
 
-/// Whether a text has as many lower hexadecimal digits as the name of a state, and nothing else.
+/// Whether a text has exactly as many lower hexadecimal digits as the name of a state, and nothing else.
 fn is_id(text: &str) -> bool {
     let mut all = text.len() == ID_DIGITS;
     for c in text.as_bytes() {
@@ -99,8 +99,8 @@ pub fn has_parts(path: &str) -> bool
     path.split('/').all(|part| is_part(part))
 }
 
-/// Whether a path leads to a file below `pool`, and to no other place: it begins with `pool/`, no part of it is empty, `.` or `..`, and it
-/// has no control character.
+/// Whether a path leads to a file below `pool`, and nowhere else: it begins with `pool/`, no part of it is empty, `.` or `..`, and it has
+/// no control character.
 #[tactic(auto, unfolding(crate::specs::Names::is_pool_path))]
 pub fn is_pool_path(path: &str) -> bool
     ensures { result ≡ is_path_in_pool path.now }
