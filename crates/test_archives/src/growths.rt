@@ -1,5 +1,5 @@
-//! Calls of an archive between two marks that are printed. A growth between them may be refused from outside: then the call is refused, or
-//! answers all the same. Where it is refused, the archive is to show what it did, and the call is made again.
+//! Calls of an archive between two printed marks. A growth between them may be refused from outside. Then the call is refused, or answers
+//! all the same. If it is refused, the archive has to show what it showed before, and the call is made again.
 
 use crate::keepers::Places;
 use keep::{KeepFault, Keeper};
@@ -12,7 +12,7 @@ use test_story::{Call, Pieces, Question, Story, Task, difference};
 /// Room for the reply of a request.
 const ROOM: usize = 65_536;
 
-/// A story over keepers of one type, of which calls may be marked.
+/// A story over keepers of one type, whose calls may be marked.
 #[derive(Drop)]
 pub struct Marked<K: Keeper + Drop, M: Places<K>> {
     story: Story<K, M>,
@@ -39,14 +39,14 @@ impl<R: Print + AllocGlobal> Marks<'_, R> {
         self.print("begin")
     }
 
-    /// No growth counts from here on.
+    /// Growths do not count from here on.
     pub fn end(&self, is_refused: bool) -> Result<(), Unread> {
         self.print("end")?;
         self.print(if is_refused { "refused" } else { "at once" })
     }
 }
 
-/// All that an archive shows.
+/// Everything that an archive shows.
 fn shown<K: Keeper>(alloc: Global, archive: &mut Archive<K>) -> Result<Pieces, Unread> {
     let paths = Task::Paths.perform(alloc, archive)?;
     let question = Question {
@@ -57,7 +57,7 @@ fn shown<K: Keeper>(alloc: Global, archive: &mut Archive<K>) -> Result<Pieces, U
     Task::Tell(question).perform(alloc, archive)
 }
 
-/// Where an archive shows something else than it did, what that is.
+/// The change of what an archive shows, if there is one.
 fn changed<K: Keeper>(
     alloc: Global,
     archive: &mut Archive<K>,
@@ -70,7 +70,7 @@ fn changed<K: Keeper>(
     Ok(Some(difference(alloc, behind.as_slice(), before)?))
 }
 
-/// What a call answers that is made again, where the archive shows what it did.
+/// The answer to a call that is made again, if the archive shows what it showed before.
 fn again<K: Keeper>(
     alloc: Global,
     archive: &mut Archive<K>,
@@ -86,7 +86,7 @@ fn again<K: Keeper>(
     }
 }
 
-/// What a call answers, at once or where it is made again.
+/// The answer to a call, at once or when it is made again.
 fn called<K: Keeper, R: Print + AllocGlobal>(
     marks: Marks<'_, R>,
     archive: &mut Archive<K>,
@@ -105,7 +105,7 @@ fn called<K: Keeper, R: Print + AllocGlobal>(
     answered.text(alloc)
 }
 
-/// A word where a keeper is there, which the story then has, or the fault.
+/// Keeps the keeper in the story and gives a word, or gives the fault.
 fn kept<K: Keeper + Drop, M: Places<K>>(
     alloc: Global,
     story: &mut Story<K, M>,
@@ -129,7 +129,7 @@ pub fn config_of(alloc: Global, text: &[u8]) -> Result<Config, Unread> {
     }
 }
 
-/// Makes an archive again in its place, where memory was wanting.
+/// Makes an archive again in its place, if memory was wanting.
 fn created_again<K: Keeper + Drop, M: Places<K>>(
     alloc: Global,
     made: Result<K, (M::Place, KeepFault)>,
@@ -142,7 +142,7 @@ fn created_again<K: Keeper + Drop, M: Places<K>>(
     }
 }
 
-/// Makes an archive in a place, at once or where it is made again.
+/// Makes an archive in a place, at once or when it is made again.
 fn created_in<K: Keeper + Drop, M: Places<K>, R: Print + AllocGlobal>(
     marks: Marks<'_, R>,
     story: &mut Story<K, M>,
@@ -174,7 +174,7 @@ fn created<K: Keeper + Drop, M: Places<K>, R: Print + AllocGlobal>(
     created_in(marks, story, place, config, other)
 }
 
-/// Opens an archive again in its place, where memory was wanting.
+/// Opens an archive again in its place, if memory was wanting.
 fn opened_again<K: Keeper + Drop, M: Places<K>>(
     alloc: Global,
     there: Result<K, (M::Place, KeepFault)>,
@@ -186,7 +186,7 @@ fn opened_again<K: Keeper + Drop, M: Places<K>>(
     }
 }
 
-/// Opens an archive, at once or where it is opened again in the same place.
+/// Opens an archive, at once or when it is opened again in the same place.
 fn opened<K: Keeper + Drop, M: Places<K>, R: Print + AllocGlobal>(
     marks: Marks<'_, R>,
     story: &mut Story<K, M>,
@@ -204,7 +204,7 @@ fn opened<K: Keeper + Drop, M: Places<K>, R: Print + AllocGlobal>(
     answer
 }
 
-/// What a call answers of the archive that is there, which stays there.
+/// The answer to a call of the archive, which stays in the story.
 fn called_of<K: Keeper + Drop, M: Places<K>, R: Print + AllocGlobal>(
     marks: Marks<'_, R>,
     story: &mut Story<K, M>,
@@ -218,8 +218,8 @@ fn called_of<K: Keeper + Drop, M: Places<K>, R: Print + AllocGlobal>(
     Ok(answer)
 }
 
-/// `call CALL`: what a call answers, or its fault; `call create CONFIG` and `call open`: whether an archive is made, or opened again. Behind
-/// `marked` in the place of `call` the marks are printed.
+/// `call CALL`: the answer to a call, or its fault; `call create CONFIG` and `call open`: whether an archive is made, or opened again. With
+/// `marked` instead of `call` the marks are printed.
 fn answered<K: Keeper + Drop, M: Places<K>, R: Print + AllocGlobal>(
     marks: Marks<'_, R>,
     story: &mut Story<K, M>,
@@ -238,7 +238,7 @@ fn answered<K: Keeper + Drop, M: Places<K>, R: Print + AllocGlobal>(
     }
 }
 
-/// Whether marks are printed, by the word before a call: `call` or `marked`. Before all else neither stands.
+/// Whether marks are printed, by the word before a call: `call` or `marked`. All other rows have neither word.
 pub fn prints_marks(word: &Vec<u8>) -> Result<Option<bool>, Unread> {
     match text_of(word)? {
         "call" => Ok(Some(false)),
@@ -255,7 +255,7 @@ impl<K: Keeper + Drop, M: Places<K>> Marked<K, M> {
         }
     }
 
-    /// Has this archive from here on.
+    /// Keeps this archive from here on.
     pub fn put(&mut self, archive: Archive<K>) {
         self.story.put(archive);
     }

@@ -1,4 +1,4 @@
-//! The keepers that stories are told over.
+//! The keepers that stories use.
 
 ghost use Rattle.std.specs.Prelude.{◌≤◌};
 
@@ -9,7 +9,7 @@ use sqlite::{Connection, MemStore};
 use std::alloc::{AllocError, Global};
 use test_story::Makes;
 
-/// What makes keepers in a place and opens them there, and gives the place back where it can't.
+/// Makes keepers in a place and opens them there, and gives the place back if it can't.
 pub trait Places<K>: Makes<K> {
     /// What a keeper is made in.
     type Place: Drop;
@@ -80,7 +80,8 @@ impl Places<PlainKeeper> for Lists {
     }
 }
 
-/// A store of a database in memory. Only what opens it names its type, since each function that does takes the prover long.
+/// A store of a database in memory. Only what opens it names its type, since each function that does so takes the prover
+/// long.
 pub trait InMemory: InOrder {
     /// A connection to a new database.
     fn connect(alloc: Global) -> Result<Connection<Self>, AllocError>;
@@ -92,7 +93,7 @@ impl InMemory for MemStore {
     }
 }
 
-/// A keeper over the tables that are made in a place.
+/// A keeper over tables that are made in a place.
 fn created<S: InMemory + Drop>(
     alloc: Global,
     place: Connection<S>,

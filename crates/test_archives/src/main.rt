@@ -1,7 +1,7 @@
-//! Archives as rows: stories, told over both keepers, and calls and migrations of which a growth may be refused from outside.
+//! Archives as rows: stories over both keepers, and calls and migrations of which a growth may be refused from outside.
 //!
-//! A line is printed for each row that differs, and one for each file. The exit status is 0 where each file has rows, all rows can
-//! be read, and none differs; else 1.
+//! A line is printed for each row that differs, and one for each file. The exit status is 0 if each file has rows, all rows can be
+//! read, and none differs; otherwise it is 1.
 #![tactic(auto)]
 
 mod growths;
@@ -21,8 +21,8 @@ use test_rows::{Answers, report_files};
 /// Stories over plain keepers, and calls of them.
 type OverLists = Marked<PlainKeeper, Lists>;
 
-/// Stories over keepers over tables in memory, calls of them, and migrations. `main` names the type of their store, and besides it only
-/// what opens it does.
+/// Stories over keepers over tables in memory, their calls, and migrations. Only `main` names the type of their store, besides what
+/// opens it.
 type OverTables = Moves<MemStore>;
 
 /// Makes the calls of which a growth may be refused, over lists and over tables, and migrations.
@@ -35,7 +35,7 @@ fn call<L: Answers<R>, T: Answers<R>, R: Files + Env + Print + AllocGlobal + Clo
     Ok(over_lists && over_tables && moved)
 }
 
-/// Tells the stories over lists and over tables, and makes the calls.
+/// Does the stories over lists and over tables, and makes the calls.
 fn tell<L: Answers<R>, T: Answers<R>, R: Files + Env + Print + AllocGlobal + Clone + Drop>(
     rt: &R,
 ) -> io::Result<bool> {

@@ -1,4 +1,4 @@
-//! Archives of older layouts that are read and migrated in memory, between two marks that are printed, as calls are.
+//! Archives of older layouts that are read and migrated in memory, between two printed marks, as calls are made.
 
 use crate::growths::{Marked, Marks, config_of, prints_marks};
 use crate::keepers::{InMemory, Tables};
@@ -11,8 +11,8 @@ use sqlite::Connection;
 use std::alloc::Global;
 use test_rows::{Answers, Unread, number_of, said, text_of};
 
-/// A story over keepers over tables in memory, of which calls may be marked, and the archive of an older layout that was read last, if one
-/// was.
+/// A story over keepers over tables in memory, whose calls may be marked, and the archive of an older layout that was last read, if there
+/// is one.
 #[derive(Drop)]
 pub struct Moves<S: InMemory + Drop> {
     old: Option<OldBook>,
@@ -22,13 +22,13 @@ pub struct Moves<S: InMemory + Drop> {
 /// A step of a migration.
 #[derive(Clone, Copy)]
 enum Step<'a> {
-    /// `old SQL..`: reads the archive of an older layout that lists of statements make.
+    /// `old SQL..`: reads the archive of an older layout that is made by lists of statements.
     Old(&'a [Vec<u8>]),
-    /// `migrated CONFIGURATION MOMENT`: makes an archive of the one that was read.
+    /// `migrated CONFIGURATION MOMENT`: makes an archive from the one that was read.
     Migrated(&'a [u8], u64),
 }
 
-/// The step of these words, if they are one.
+/// The step of these words, if they name one.
 fn step_of(words: &[Vec<u8>]) -> Result<Option<Step<'_>>, Unread> {
     let Some((verb, rest)) = words.split_first() else {
         return Ok(None);
@@ -43,7 +43,7 @@ fn step_of(words: &[Vec<u8>]) -> Result<Option<Step<'_>>, Unread> {
     }
 }
 
-/// Under what an archive of an older layout is migrated.
+/// The configuration and the moment of a migration.
 #[derive(Clone, Copy)]
 struct Move<'a> {
     old: &'a OldBook,
@@ -62,7 +62,7 @@ fn database<S: InMemory + Drop>(alloc: Global, lists: &[Vec<u8>]) -> Result<Conn
     Ok(connection)
 }
 
-/// Reads the archive of an older layout, at once or where it is read again.
+/// Reads the archive of an older layout, at once or when it is read again.
 fn read<S: InMemory + Drop, R: Print + AllocGlobal>(
     marks: Marks<'_, R>,
     connection: &mut Connection<S>,
@@ -77,7 +77,7 @@ fn read<S: InMemory + Drop, R: Print + AllocGlobal>(
     }
 }
 
-/// Makes an archive of an older one in a place.
+/// Makes an archive from an older one in a place.
 fn made<S: InMemory + Drop>(
     alloc: Global,
     place: Connection<S>,
@@ -87,7 +87,7 @@ fn made<S: InMemory + Drop>(
     migrate::migrate(alloc, place, step.old, config, step.moment.min(LATEST))
 }
 
-/// Makes it again in its place, where memory was wanting.
+/// Makes an archive from an older one again in its place, if memory was wanting.
 fn made_again<S: InMemory + Drop>(
     alloc: Global,
     first: Result<TableKeeper<S>, (Connection<S>, KeepFault)>,
@@ -100,7 +100,7 @@ fn made_again<S: InMemory + Drop>(
     }
 }
 
-/// Makes an archive of an older one, at once or where it is made again.
+/// Makes an archive from an older one, at once or when it is made again.
 fn migrated<S: InMemory + Drop, R: Print + AllocGlobal>(
     marks: Marks<'_, R>,
     step: Move<'_>,
@@ -119,7 +119,7 @@ fn migrated<S: InMemory + Drop, R: Print + AllocGlobal>(
 }
 
 impl<S: InMemory + Drop> Moves<S> {
-    /// Reads an archive of an older layout, and says so, or the fault.
+    /// Reads the archive of an older layout, and gives a word, or the fault.
     fn read<R: Print + AllocGlobal>(
         &mut self,
         marks: Marks<'_, R>,
@@ -136,7 +136,7 @@ impl<S: InMemory + Drop> Moves<S> {
         }
     }
 
-    /// Makes an archive of the one that was read, and says so, or the fault.
+    /// Makes an archive from the one that was read, and gives a word, or the fault.
     fn migrated<R: Print + AllocGlobal>(
         &mut self,
         marks: Marks<'_, R>,
@@ -182,7 +182,7 @@ impl<S: InMemory + Drop, R: Print + AllocGlobal> Answers<R> for Moves<S> {
         }
     }
 
-    /// A step behind `call` or `marked`, else what the story answers.
+    /// Does a step that follows `call` or `marked`; for other words it gives the answer of the story.
     fn answer(&mut self, rt: &R, words: &[Vec<u8>]) -> Result<Vec<u8>, Unread> {
         let Some((word, rest)) = words.split_first() else {
             return Err(Unread::BadWords);

@@ -1,4 +1,5 @@
-//! Tests of what rows can't say: connections in one list, commands from the first call on, refusals over a disk, types, and what a keeper is handed.
+//! Tests that rows can't express: connections in one list, commands from the first call on, refusals over a disk, types, and what a keeper is
+//! handed.
 #![tactic(auto)]
 
 #[cfg(test)]

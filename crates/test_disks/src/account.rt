@@ -1,11 +1,11 @@
-//! What an archive told, beside what it was to tell.
+//! What an archive showed and answered, compared with what is wanted.
 
 use test_story::is_refusal;
 
-/// How the piece begins that is the configuration.
+/// The beginning of the piece that is the configuration.
 const CONFIGURATION: &[u8] = b"configuration:\n";
 
-/// What an archive shows, what it answers to a question, and what it shows then.
+/// What an archive shows, its answer to a question, and what it then shows.
 #[derive(Clone, Copy)]
 struct Told<'a> {
     before: &'a [Vec<u8>],
@@ -13,7 +13,7 @@ struct Told<'a> {
     behind: &'a [Vec<u8>],
 }
 
-/// Pieces that were told: as many before the answer as behind it.
+/// Pieces of which as many come before the answer as after it.
 fn parts(pieces: &[Vec<u8>]) -> Told<'_> {
     let (before, rest) = pieces.split_at(pieces.len() / 2);
     match rest.split_first() {
@@ -30,17 +30,17 @@ fn parts(pieces: &[Vec<u8>]) -> Told<'_> {
     }
 }
 
-/// Whether a piece is an answer of which all was refused, or shows that what stands at its path was.
+/// Whether a piece is an answer of which all was refused, or shows that the look-up of its path was refused.
 fn is_refused(piece: &[u8]) -> bool {
     piece.ends_with(b":\nQ4 K2\n") || is_refusal(piece, b"")
 }
 
-/// Whether a piece is the configuration, which no disk is asked for.
+/// Whether a piece is the configuration, for which no disk is read.
 fn is_configuration(piece: &[u8]) -> bool {
     piece.starts_with(CONFIGURATION)
 }
 
-/// Whether all pieces were refused, but the configuration.
+/// Whether all pieces were refused, except the configuration.
 pub fn are_refused(pieces: &[Vec<u8>]) -> bool {
     for piece in pieces {
         if !is_configuration(piece.as_slice()) && !is_refused(piece.as_slice()) {
@@ -50,7 +50,7 @@ pub fn are_refused(pieces: &[Vec<u8>]) -> bool {
     true
 }
 
-/// Whether pieces are these, but for those that were refused.
+/// Whether the pieces are these, except those that were refused.
 fn are_like(found: &[Vec<u8>], wanted: &[Vec<u8>]) -> bool {
     for (found, wanted) in found.iter().zip(wanted) {
         if found.as_slice() != wanted.as_slice() && !is_refused(found.as_slice()) {
@@ -60,12 +60,13 @@ fn are_like(found: &[Vec<u8>], wanted: &[Vec<u8>]) -> bool {
     found.len() == wanted.len()
 }
 
-/// Whether an archive answered a question as another did.
+/// Whether an archive answered a question like another.
 pub fn is_answer(found: &[Vec<u8>], wanted: &[Vec<u8>]) -> bool {
     parts(found).answer == parts(wanted).answer
 }
 
-/// Whether an archive told what another did, but for what was refused. Where the question was refused, it shows then what it did.
+/// Whether an archive showed and answered the same as another, except what was refused. If the question was refused, the archive
+/// has to show afterwards what it showed before.
 pub fn is_like(found: &[Vec<u8>], wanted: &[Vec<u8>]) -> bool {
     if is_answer(found, wanted) {
         return are_like(found, wanted);

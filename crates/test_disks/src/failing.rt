@@ -8,34 +8,35 @@ ghost use Rattle.sqlite_disk.specs.Tally.{both_counts};
 use sqlite_disk::{Disk, Tally};
 use std::io;
 
-/// How many bytes the header of a log has.
+/// The number of bytes of the header of a log.
 const HEADER_LEN: usize = 32;
 
 /// How a disk fails.
 #[derive(Clone, Copy)]
 pub enum Kind {
-    /// Each call from one on fails.
+    /// Each call from some call on fails.
     Stops,
-    /// One call fails.
+    /// A single call fails.
     Fails,
-    /// Each write from one on finds no room.
+    /// Each write from some write on finds no room.
     Full,
 }
 
-/// A disk that passes so many calls on before it fails; where it is to be full, writes alone count.
+/// A disk that passes a number of calls on before it fails. If it is to be full, only writes count.
 pub struct Failing<D: Disk> {
     pub inner: D,
     pub kind: Kind,
     pub calls_left: u64,
-    /// How many calls have failed, and how many of them found no room.
+    /// The number of calls that have failed (`failed`), and the number of those that found no room
+    /// (`refused`).
     pub failed: u64,
     pub refused: u64,
     pub sync_failed: bool,
-    /// Whether a write failed of one byte, or of one of the first of the file.
+    /// Whether a write of one byte, or of one of the first bytes of the file, failed.
     pub turn_failed: bool,
 }
 
-// It is written out, so that a caller does not prove again how each part is dropped.
+// This is written out, so that a caller does not prove again how each part is dropped.
 impl<D: Disk + Drop> Drop for Failing<D> {
     fn drop(self) {
         let Failing {

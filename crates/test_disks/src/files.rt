@@ -1,4 +1,4 @@
-//! An archive in files in memory, and what is asked of it.
+//! An archive in files in memory, and the questions to it.
 
 use crate::failing::Kind;
 use crate::image::Image;
@@ -17,11 +17,11 @@ use test_story::{Pieces, Question, Task};
 #[derive(Drop)]
 pub struct Case {
     image: Image,
-    /// What an archive of an older layout holds, where one was read.
+    /// The contents of an archive of an older layout, if one was read.
     old: Option<OldBook>,
 }
 
-/// Which of the two files a word names.
+/// The file that a word names.
 fn which_of(word: &Vec<u8>) -> Result<Which, Unread> {
     match text_of(word)? {
         "log" => Ok(Which::Log),
@@ -40,7 +40,7 @@ fn kind_of(word: &Vec<u8>) -> Result<Kind, Unread> {
     }
 }
 
-/// What was told, or the fault where there was no archive or no database.
+/// What was shown, or the fault if there was no archive or no database.
 fn told(alloc: Global, answer: Result<Pieces, KeepFault>) -> Result<Vec<u8>, Unread> {
     match answer {
         Ok(pieces) => Ok(pieces.as_slice().concat(alloc)?),
@@ -48,7 +48,7 @@ fn told(alloc: Global, answer: Result<Pieces, KeepFault>) -> Result<Vec<u8>, Unr
     }
 }
 
-/// `interrupted FILE HOW STEP..`: what becomes of a step while one of the files fails.
+/// `interrupted FILE HOW STEP..`: the result of a step while one of the files fails.
 fn interrupted_by(
     alloc: Global,
     image: &Image,
@@ -66,7 +66,7 @@ fn interrupted_by(
     interrupted(alloc, image, plan, Step::read(alloc, old, step)?)
 }
 
-/// `observed`: all that an archive shows.
+/// `observed`: everything that an archive shows.
 fn observed(alloc: Global, image: &Image) -> Result<Vec<u8>, Unread> {
     let paths = paths_of(alloc, image)?;
     let question = Question {
@@ -78,7 +78,7 @@ fn observed(alloc: Global, image: &Image) -> Result<Vec<u8>, Unread> {
     told(alloc, left.answer)
 }
 
-/// `count QUERY`: how many rows a query answers.
+/// `count QUERY`: the number of rows of a query.
 fn counted(alloc: Global, image: &Image, query: &Vec<u8>) -> Result<Vec<u8>, Unread> {
     let left = done(alloc, image, SOUND, Work::Count(text_of(query)?))?;
     if left.answer.is_err() {
@@ -87,12 +87,12 @@ fn counted(alloc: Global, image: &Image, query: &Vec<u8>) -> Result<Vec<u8>, Unr
     told(alloc, left.answer)
 }
 
-/// `transaction`: what an opening makes of the database in a transaction, and behind its end.
+/// `transaction`: the result of opening the database in a transaction, and after its end.
 fn in_transaction(alloc: Global, image: &Image) -> Result<Vec<u8>, Unread> {
     told(alloc, done(alloc, image, SOUND, Work::OpenTwice)?.answer)
 }
 
-/// Says that the archive of an older layout was read in files, or the fault; with a word where that changes the database file.
+/// Says that the archive of an older layout was read in files, or gives the fault, with a word if that changes the database file.
 fn told_old(alloc: Global, image: &Image, left: &Left) -> Result<Vec<u8>, Unread> {
     let mut text = word_or_fault(alloc, "read", &left.answer)?;
     if left.stood.database.as_slice() != image.database.as_slice() {
@@ -137,15 +137,15 @@ impl Case {
         answer
     }
 
-    /// Reads the archive of an older layout in files, and says so, or the fault.
+    /// Reads the archive of an older layout in files, and says so, or gives the fault.
     fn read_old_in(&mut self, alloc: Global, image: &Image) -> Result<Vec<u8>, Unread> {
         let (left, old) = old_of(alloc, image)?;
         self.old = old;
         told_old(alloc, image, &left)
     }
 
-    /// `old SQL..`: reads the archive of an older layout that lists of statements make in empty files, and says so, or the fault; with a
-    /// word where that changes the database file.
+    /// `old SQL..`: reads the archive of an older layout that lists of statements make in empty files, and says so, or gives the fault,
+    /// with a word if that changes the database file.
     fn read_old(&mut self, alloc: Global, lists: &[Vec<u8>]) -> Result<Vec<u8>, Unread> {
         self.old = None;
         match changed(alloc, &Image::empty(alloc), lists)? {
@@ -166,7 +166,7 @@ impl Case {
         word_or_fault(alloc, "opened", &answer)
     }
 
-    /// `changed SQL..`: runs lists of statements past the archive, and says what an opening makes of the files then.
+    /// `changed SQL..`: runs lists of statements without the archive, and gives the result of opening the files.
     fn change(&mut self, alloc: Global, lists: &[Vec<u8>]) -> Result<Vec<u8>, Unread> {
         match changed(alloc, &self.image, lists)? {
             Some(image) => {
@@ -177,7 +177,7 @@ impl Case {
         }
     }
 
-    /// What is answered to words that change the files.
+    /// The answer to words that change the files.
     fn changing(
         &mut self,
         alloc: Global,

@@ -1,4 +1,4 @@
-//! What the two files of a database hold.
+//! The contents of the two files of a database.
 
 use std::alloc::{AllocError, Global};
 
@@ -8,7 +8,7 @@ pub struct Image {
     pub database: Vec<u8>,
 }
 
-// It is written out, so that a caller does not prove again how each part is dropped.
+// This is written out, so that a caller does not prove again how each part is dropped.
 impl Drop for Image {
     fn drop(self) {
         let Image {
@@ -27,7 +27,7 @@ impl Image {
         }
     }
 
-    /// Files that hold these bytes.
+    /// Files with these bytes.
     pub fn of(alloc: Global, log: &[u8], database: &[u8]) -> Result<Image, AllocError> {
         let mut image = Image::empty(alloc);
         image.log.extend_from_slice(log)?;

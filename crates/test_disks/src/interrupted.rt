@@ -11,7 +11,7 @@ use std::alloc::Global;
 use test_rows::{Unread, said};
 use test_story::{Pieces, Task, add_paths, difference, is_refused_line};
 
-/// More calls than any step here makes of a file.
+/// More calls than any step here makes to a file.
 const MOST_CALLS: u64 = 4000;
 
 /// A step that is interrupted, and what is wanted of it.
@@ -20,14 +20,14 @@ struct Interruption<'a> {
     plan: Plan,
     step: Step<'a>,
     paths: Pieces,
-    /// What the step answers; or where it is to make an archive or to open one, and can't, the fault.
+    /// The answer to the step. If the step is to make or to open an archive, and can't, it is the fault.
     answer: Result<Pieces, KeepFault>,
-    /// What is told of the step where it was not done before, and where it was.
+    /// What is shown if the step was not done, and if it was.
     undone: Pieces,
     done: Pieces,
 }
 
-// It is written out, so that a caller does not prove again how each part is dropped.
+// This is written out, so that a caller does not prove again how each part is dropped.
 impl Drop for Interruption<'_> {
     fn drop(self) {
         let Interruption {
@@ -42,20 +42,20 @@ impl Drop for Interruption<'_> {
     }
 }
 
-/// What came of a step.
+/// The result of a step.
 #[derive(Clone, Copy)]
 enum Outcome {
-    /// It was done, at once or when it was given again.
+    /// It was done, at once or when it was repeated.
     Done,
-    /// It was refused, all of it or some, and may have been done or not.
+    /// All or some of it was refused, and it may have been done or not.
     Refused,
     /// There was no archive to do it with.
     Unopened,
-    /// What should not be.
+    /// Something went wrong.
     Otherwise,
 }
 
-/// What was found behind a number of calls.
+/// What was found after a number of calls.
 #[derive(Drop)]
 enum Found {
     /// The archive did not open.
@@ -64,18 +64,18 @@ enum Found {
     Whole,
     /// No call failed.
     Through,
-    /// What should not be.
+    /// Something went wrong.
     Otherwise(Vec<u8>),
 }
 
-/// What files told last. Files that hold the same tell the same, and are not opened again.
+/// What was last shown by files. Files with the same contents show the same, and are not opened again.
 struct Last {
     image: Image,
-    /// Nothing where they have not told yet.
+    /// What was shown; it is empty if nothing was shown yet.
     told: Pieces,
 }
 
-// It is written out, so that a caller does not prove again how each part is dropped.
+// This is written out, so that a caller does not prove again how each part is dropped.
 impl Drop for Last {
     fn drop(self) {
         let Last { image: _, told: _ } = self;
@@ -83,7 +83,7 @@ impl Drop for Last {
 }
 
 impl Last {
-    /// Files that have not told yet.
+    /// Files that have shown nothing yet.
     fn new(alloc: Global) -> Last {
         Last {
             image: Image::empty(alloc),
@@ -91,14 +91,14 @@ impl Last {
         }
     }
 
-    /// Whether files told, and held the same.
+    /// Whether the last files that were shown have these contents.
     fn is_of(&self, image: &Image) -> bool {
         let is_same_log = self.image.log.as_slice() == image.log.as_slice();
         let is_same_database = self.image.database.as_slice() == image.database.as_slice();
         is_same_log && is_same_database && !self.told.is_empty()
     }
 
-    /// Has files tell, where they hold something else.
+    /// Shows what is in files, if their contents differ from the last.
     fn tell(
         &mut self,
         alloc: Global,
@@ -114,13 +114,13 @@ impl Last {
     }
 }
 
-/// What was told last of files as they stood, and as a crash left them.
+/// What was last shown by files as they were, and as a crash left them.
 struct Remains {
     stood: Last,
     crashed: Last,
 }
 
-// It is written out, so that a caller does not prove again how each part is dropped.
+// This is written out, so that a caller does not prove again how each part is dropped.
 impl Drop for Remains {
     fn drop(self) {
         let Remains {
@@ -130,7 +130,7 @@ impl Drop for Remains {
     }
 }
 
-/// The paths of the archive before a step and of the one behind it.
+/// The paths of the archive before a step and of the one after it.
 fn all_paths(alloc: Global, before: &Image, behind: &Image) -> Result<Pieces, Unread> {
     let mut paths = paths_of(alloc, before)?;
     let more = paths_of(alloc, behind)?;
@@ -139,7 +139,7 @@ fn all_paths(alloc: Global, before: &Image, behind: &Image) -> Result<Pieces, Un
 }
 
 impl<'a> Interruption<'a> {
-    /// Does the step with disks that work, to see what is wanted of it.
+    /// Does the step with disks that work, to find out what is wanted of it.
     fn new(
         alloc: Global,
         before: &'a Image,
@@ -162,7 +162,7 @@ impl<'a> Interruption<'a> {
         })
     }
 
-    /// The right answer of the step, where there is one.
+    /// The right answer of the step, if there is one.
     fn right(&self) -> &[Vec<u8>] {
         match &self.answer {
             Ok(right) => right.as_slice(),
@@ -170,8 +170,8 @@ impl<'a> Interruption<'a> {
         }
     }
 
-    /// Whether an archive may refuse all or some behind a step that was refused: where one call alone fails, all or nothing, and
-    /// nothing where the store has no need to read its files again.
+    /// Whether an archive may refuse all or some after a step that was refused. If only one call fails, the archive refuses all or
+    /// nothing, and nothing if the store does not need to read its files again.
     fn may_refuse(&self, left: &Left, is_all: bool) -> bool {
         match self.plan.kind {
             Kind::Fails => left.may_be_shut && is_all,
@@ -179,7 +179,7 @@ impl<'a> Interruption<'a> {
         }
     }
 
-    /// What came of the step by what the archive told that refused it, where another would tell this.
+    /// The result of the step, from what the archive showed that refused it, compared with what is wanted.
     fn outcome_by(&self, left: &Left, found: &[Vec<u8>], wanted: &[Vec<u8>]) -> Outcome {
         if found == wanted {
             return Outcome::Done;
@@ -193,8 +193,8 @@ impl<'a> Interruption<'a> {
         Outcome::Refused
     }
 
-    /// What came of the step by what the archive told, and answered last. Where it refused the step, it was asked again: the step was
-    /// not done then, and is now, or is refused again. Of a list of commands that was refused in part, the part that was not may have
+    /// The result of the step, from what the archive showed and last answered. If it refused the step, it was asked again: the step
+    /// was not done at first, and is done now, or is refused again. If a list of commands was refused in part, the other part may have
     /// been done.
     fn outcome_of(&self, left: &Left, pieces: &[Vec<u8>]) -> Outcome {
         if pieces == self.right() {
@@ -211,7 +211,7 @@ impl<'a> Interruption<'a> {
         }
     }
 
-    /// What came of the step.
+    /// The result of the step.
     fn outcome(&self, left: &Left) -> Outcome {
         match (&left.answer, &self.answer) {
             (Ok(pieces), Ok(_)) => self.outcome_of(left, pieces.as_slice()),
@@ -221,18 +221,18 @@ impl<'a> Interruption<'a> {
         }
     }
 
-    /// Whether files told that the step was done whole or, where it was not answered, not at all.
+    /// Whether files show that the step was done whole or, if it was not answered, not at all.
     fn is_whole(&self, told: &[Vec<u8>], is_answered: bool) -> bool {
         told == self.done.as_slice() || !is_answered && told == self.undone.as_slice()
     }
 
-    /// Says where what was told is not what is told where the step was done.
+    /// Says how what was shown differs from what is shown if the step was done.
     fn unlike(&self, alloc: Global, told: &[Vec<u8>]) -> Result<Found, Unread> {
         let text = difference(alloc, told, self.done.as_slice())?;
         Ok(Found::Otherwise(text))
     }
 
-    /// Opens what is left of files, as it stands and as a crash of the machine leaves it.
+    /// Opens what is left of files, as it is and as a crash of the machine leaves it.
     fn found_behind(
         &self,
         alloc: Global,
@@ -257,8 +257,8 @@ impl<'a> Interruption<'a> {
         })
     }
 
-    /// Opens what is left of files in which no archive was opened or made. Where it was opened for a question, what is left is that of
-    /// the step `open`, and the database file is as it was.
+    /// Opens what is left of files in which no archive was opened or made. If the archive was opened for a question, what is left is
+    /// as after the step `open`, and the database file is as it was.
     fn found_unopened(
         &self,
         alloc: Global,
@@ -274,7 +274,7 @@ impl<'a> Interruption<'a> {
         Ok(Found::Otherwise(said(alloc, "not opened, and other bytes")?))
     }
 
-    /// Says what was told by an archive that was to answer, or to be opened no more.
+    /// Says what was shown by an archive that had to answer, or that had to stay closed.
     fn otherwise(&self, alloc: Global, left: &Left) -> Result<Found, Unread> {
         match &left.answer {
             Ok(pieces) => self.unlike(alloc, pieces.as_slice()),
@@ -282,7 +282,7 @@ impl<'a> Interruption<'a> {
         }
     }
 
-    /// Does the step in files of which one fails behind so many calls, and opens what is left of them.
+    /// Does the step in files, one of which fails after `calls` calls, and opens what is left of them.
     fn found(&self, alloc: Global, calls: u64, remains: &mut Remains) -> Result<Found, Unread> {
         let plan = Plan { calls, ..self.plan };
         let question = self.step.question(self.paths.as_slice(), self.right());
@@ -300,7 +300,8 @@ impl<'a> Interruption<'a> {
         }
     }
 
-    /// Behind how many calls the step begins: none where it is to make an archive or to open one, else those of an opening.
+    /// The number of calls after which the step begins: 0 if it is to make or to open an archive, else the number of calls of an
+    /// opening.
     fn first_call(&self, alloc: Global) -> Result<u64, Unread> {
         if self.step.words.is_empty() {
             return Ok(0);
@@ -309,7 +310,7 @@ impl<'a> Interruption<'a> {
         Ok(left.calls)
     }
 
-    /// Does the step behind ever more calls, until none fails.
+    /// Does the step with one more call passed on each time, until no call fails.
     fn verdict(&self, alloc: Global, remains: &mut Remains) -> Result<Vec<u8>, Unread> {
         let first = self.first_call(alloc)?;
         let mut has_failed = false;
@@ -326,14 +327,14 @@ impl<'a> Interruption<'a> {
     }
 }
 
-/// Says behind how many calls something is otherwise.
+/// Says after how many calls something went wrong.
 fn told_at(alloc: Global, calls: u64, text: &[u8]) -> Result<Vec<u8>, Unread> {
     let mut line = said(alloc, format!(in alloc; "{calls} calls, ")?.as_str())?;
     line.extend_from_slice(text)?;
     Ok(line)
 }
 
-/// What becomes of a step while one of the files fails as it is planned, but for the number of calls.
+/// The result of a step while one of the files fails as it is planned, for each number of calls.
 pub fn interrupted(
     alloc: Global,
     image: &Image,

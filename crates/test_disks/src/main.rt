@@ -1,7 +1,8 @@
-//! Archives as rows, in files in memory: whose disks stop, fail or are full; databases that are no archive; and archives of older layouts.
+//! Archives as rows, in files in memory: files whose disks stop, fail or are full; databases that are no archive; and archives of older
+//! layouts.
 //!
-//! A line is printed for each row that differs, and one for each file. The exit status is 0 where each file has rows, all rows can
-//! be read, and none differs; else 1.
+//! A line is printed for each row that differs, and one for each file. The exit status is 0 if each file has rows, all rows can be read,
+//! and none differs; otherwise it is 1.
 #![tactic(auto)]
 
 mod account;

@@ -1,4 +1,4 @@
-//! Steps of a story, and what files tell of one.
+//! Steps of a story, and what files show of a step.
 
 use crate::image::Image;
 use crate::trial::{SOUND, done};
@@ -10,10 +10,10 @@ use std::alloc::Global;
 use test_rows::{Unread, number_of, text_of};
 use test_story::{Pieces, Question, Task};
 
-/// A step of a story: a question to the archive that is there, or none where it is opened or made alone.
+/// A step of a story: a question to the archive that is there, or no question if the archive is only opened or made.
 #[derive(Clone, Copy)]
 pub struct Step<'a> {
-    /// Of what an archive is made, if one is.
+    /// What an archive is made from, if one is made.
     pub making: Option<Making<'a>>,
     pub words: &'a [Vec<u8>],
 }
@@ -35,7 +35,7 @@ impl<'a> Step<'a> {
         Step::of(alloc, config, Making::New(config))
     }
 
-    /// The step that makes an archive of an older one, where there is one, under a configuration and at a moment.
+    /// The step that makes an archive from an older one, if there is one, under a configuration and at a moment.
     fn migrating(
         alloc: Global,
         old: Option<&'a OldBook>,
@@ -55,7 +55,7 @@ impl<'a> Step<'a> {
         }
     }
 
-    /// The step of these words, where this archive of an older layout was read last, if one was.
+    /// The step of these words. `old` is the archive of an older layout that was last read, if there is one.
     pub fn read(
         alloc: Global,
         old: Option<&'a OldBook>,
@@ -75,7 +75,7 @@ impl<'a> Step<'a> {
         }
     }
 
-    /// The question of the step, with all that is shown at these paths, and its right answer.
+    /// The question of the step, with everything that is shown at these paths, and its right answer.
     pub fn question(self, paths: &'a [Vec<u8>], right: &'a [Vec<u8>]) -> Question<'a> {
         Question {
             words: self.words,
@@ -93,7 +93,7 @@ impl<'a> Step<'a> {
     }
 }
 
-/// Adds what an archive told, or the fault where there was none.
+/// Adds what an archive showed, or the fault if there was no archive.
 fn add_answer(
     alloc: Global,
     answer: Result<Pieces, KeepFault>,
@@ -106,7 +106,7 @@ fn add_answer(
     Ok(())
 }
 
-/// Adds what the archive in files tells, or the fault where there is none; and answers what is left of the files.
+/// Adds what the archive in files shows, or the fault if there is no archive; and gives what is left of the files.
 fn add_told(
     alloc: Global,
     image: &Image,
@@ -118,8 +118,8 @@ fn add_told(
     Ok(left.stood)
 }
 
-/// What the archive in files tells of a step, which is done with it. Where the step makes an archive, it tells what there was before,
-/// and then what there is.
+/// What the archive in files shows of a step, which is done with it. If the step makes an archive, it is what was there before, and
+/// then what is there.
 pub fn told_of(
     alloc: Global,
     image: &Image,
@@ -135,7 +135,7 @@ pub fn told_of(
     Ok(told)
 }
 
-/// The paths of the archive in files; none where there is no archive.
+/// The paths of the archive in files; there are none if there is no archive.
 pub fn paths_of(alloc: Global, image: &Image) -> Result<Pieces, Unread> {
     let answer = done(alloc, image, SOUND, Work::Open(Task::Paths))?.answer;
     match answer {

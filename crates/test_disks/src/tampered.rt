@@ -7,8 +7,7 @@ use std::alloc::Global;
 use test_rows::{Unread, number_of, said, text_of};
 use test_story::Task;
 
-/// What an opening makes of files: `open`, or its fault, with a word where it has changed the database file then. It may begin a
-/// log.
+/// The result of opening files: `open`, or the fault, with a word if the opening has changed the database file. It may begin a log.
 pub fn opening(alloc: Global, image: &Image) -> Result<Vec<u8>, Unread> {
     let left = done(alloc, image, SOUND, Work::Open(Task::Nothing))?;
     let mut text = word_or_fault(alloc, "open", &left.answer)?;
@@ -18,7 +17,7 @@ pub fn opening(alloc: Global, image: &Image) -> Result<Vec<u8>, Unread> {
     Ok(text)
 }
 
-/// The files behind these lists of statements, where they can be run.
+/// The files after these lists of statements, if the lists can be run.
 pub fn changed(alloc: Global, image: &Image, lists: &[Vec<u8>]) -> Result<Option<Image>, Unread> {
     let mut image = Image::of(alloc, image.log.as_slice(), image.database.as_slice())?;
     for list in lists {
@@ -31,8 +30,8 @@ pub fn changed(alloc: Global, image: &Image, lists: &[Vec<u8>]) -> Result<Option
     Ok(Some(image))
 }
 
-/// `tampered SQL..`: what an opening makes of a copy of files behind lists of statements; `not run` where they can't be run, and `no
-/// change` where they change nothing.
+/// `tampered SQL..`: the result of opening a copy of the files after lists of statements; `not run` if they can't be run, and `no
+/// change` if they change nothing.
 pub fn tampered(alloc: Global, image: &Image, lists: &[Vec<u8>]) -> Result<Vec<u8>, Unread> {
     match changed(alloc, image, lists)? {
         Some(behind) if behind.database.as_slice() == image.database.as_slice() => {
@@ -43,12 +42,12 @@ pub fn tampered(alloc: Global, image: &Image, lists: &[Vec<u8>]) -> Result<Vec<u
     }
 }
 
-/// `opens BYTES`: what an opening makes of a database file with these bytes, and no log.
+/// `opens BYTES`: the result of opening a database file with these bytes, and no log.
 pub fn opening_of(alloc: Global, bytes: &[u8]) -> Result<Vec<u8>, Unread> {
     opening(alloc, &Image::of(alloc, b"", bytes)?)
 }
 
-/// The same of the first bytes of a database file.
+/// The result of opening the first bytes of a database file.
 fn opening_of_front(alloc: Global, bytes: &[u8], count: u64) -> Result<Vec<u8>, Unread> {
     let count = count.min(bytes.len() as u64) as usize;
     match bytes.get(..count) {
@@ -57,12 +56,12 @@ fn opening_of_front(alloc: Global, bytes: &[u8], count: u64) -> Result<Vec<u8>, 
     }
 }
 
-/// `front COUNT`: the same of so many first bytes.
+/// `front COUNT`: the result of opening the first COUNT bytes of a database file.
 pub fn front(alloc: Global, bytes: &[u8], count: &Vec<u8>) -> Result<Vec<u8>, Unread> {
     opening_of_front(alloc, bytes, number_of(count)?)
 }
 
-/// `without-end COUNT`: the same without so many last bytes.
+/// `without-end COUNT`: the result of opening a database file without its last COUNT bytes.
 pub fn without_end(alloc: Global, bytes: &[u8], count: &Vec<u8>) -> Result<Vec<u8>, Unread> {
     match (bytes.len() as u64).checked_sub(number_of(count)?) {
         Some(left) => opening_of_front(alloc, bytes, left),

@@ -1,5 +1,5 @@
-//! Work with a database in two files in memory, of which one may stop, fail or be full. What is before it and behind it are plain
-//! bytes, so that few functions name a disk, and fewer the store of files.
+//! Work with a database in two files in memory, one of which may stop, fail or be full. Before and after it the files are plain bytes, so
+//! that few functions name a disk, and fewer the store of files.
 
 use crate::failing::{Failing, Kind};
 use crate::image::Image;
@@ -23,7 +23,7 @@ pub enum Which {
     Database,
 }
 
-/// Which file fails, how, and how many calls of it are passed on before.
+/// Which file fails, how, and how many of its calls are passed on before.
 #[derive(Clone, Copy)]
 pub struct Plan {
     pub which: Which,
@@ -31,34 +31,34 @@ pub struct Plan {
     pub calls: u64,
 }
 
-/// No file fails: so many calls are never made.
+/// No file fails: the number of calls before is never reached.
 pub const SOUND: Plan = Plan {
     which: Which::Log,
     kind: Kind::Stops,
     calls: u64::MAX,
 };
 
-/// What work leaves.
+/// The result of work.
 #[derive(Drop)]
 pub struct Left {
-    /// What it answered, or the fault where there was no archive or no database.
+    /// The answer, or the fault if there was no archive or no database.
     pub answer: Result<Pieces, KeepFault>,
-    /// The files as they stand, and as a crash of the machine leaves them, which loses what was not synced.
+    /// The files as they are, and as a crash of the machine leaves them, which loses what was not synced.
     pub stood: Image,
     pub crashed: Image,
     /// Whether a call failed.
     pub has_failed: bool,
-    /// Whether one did behind which only reading the files again shows what was committed: a sync, or of the log a write of its header,
-    /// or of the one byte behind which a commit counts.
+    /// Whether a call failed after which only reading the files again shows what was committed: a sync, or a write of the log's header,
+    /// or the write of the one byte after which a commit counts.
     pub may_be_shut: bool,
-    /// How many calls the file passed on that was to fail.
+    /// The number of calls that the failing file passed on.
     pub calls: u64,
 }
 
-/// How long the log grows before a transaction copies it into the database file.
+/// The number of frames in the log at which a transaction copies it into the database file.
 const CHECKPOINT_FRAMES: usize = 4;
 
-/// Few pages in memory, so that a step reads from the files, too.
+/// The options of a connection: few pages stay in memory, so that a step also reads from the files.
 fn options() -> Options {
     Options {
         cache_pages: 4,
@@ -68,7 +68,7 @@ fn options() -> Options {
     }
 }
 
-/// The connection to what files hold, or the files and why there is none.
+/// The connection to the contents of files, or the files and why there is no connection.
 fn connected<D: Disk + Drop>(
     alloc: Global,
     files: Files<D>,
@@ -82,7 +82,7 @@ fn connected<D: Disk + Drop>(
     }
 }
 
-/// The files of a connection as they are, or where it is asked for, the log copied into the database file if that does not fail.
+/// The files of a connection as they are. If it is asked for, the log is copied into the database file, unless that fails.
 fn closed<D: Disk + Drop>(connection: Connection<FileStore<D>>, copies_log: bool) -> Files<D> {
     if !copies_log {
         return connection.into_store().close();
@@ -109,7 +109,7 @@ fn worked<D: Disk + Drop>(
     }
 }
 
-/// A disk that holds these bytes, and passes so many calls on before it fails.
+/// A disk with these bytes, which passes a number of calls on before it fails.
 fn disk_of(alloc: Global, bytes: &[u8], kind: Kind, calls: u64) -> Result<Broken, AllocError> {
     let mut file = Memory::new(alloc);
     if file.write_at(0, bytes).is_err() {
@@ -129,7 +129,7 @@ fn disk_of(alloc: Global, bytes: &[u8], kind: Kind, calls: u64) -> Result<Broken
     }
 }
 
-/// Files that hold what an image says, of which one is to fail.
+/// Files with the contents of an image, one of which is to fail.
 fn files_of(alloc: Global, image: &Image, plan: Plan) -> Result<Files<Broken>, AllocError> {
     let (log, database) = match plan.which {
         Which::Log => (plan.calls, u64::MAX),
@@ -141,12 +141,12 @@ fn files_of(alloc: Global, image: &Image, plan: Plan) -> Result<Files<Broken>, A
     })
 }
 
-/// What files hold.
+/// The contents of files.
 fn image_of(alloc: Global, files: &Files<Broken>) -> Result<Image, AllocError> {
     Image::of(alloc, files.log.inner.bytes(), files.db.inner.bytes())
 }
 
-/// What is left in files.
+/// The result of work with files.
 fn left_of(
     alloc: Global,
     files: Files<Broken>,
@@ -171,8 +171,8 @@ fn left_of(
     })
 }
 
-/// Works with the database in files that hold what an image says, and of which one is to fail. An archive of an older layout that is read
-/// is put into `old`. No other function names the store of these files.
+/// Works with the database in files with the contents of an image, one of which is to fail. An archive of an older layout that is read is
+/// put into `old`. No other function names the store of these files.
 fn done_with(
     alloc: Global,
     image: &Image,
@@ -187,12 +187,12 @@ fn done_with(
     }
 }
 
-/// Works with the database in files that hold what an image says, and of which one is to fail.
+/// Works with the database in files with the contents of an image, one of which is to fail.
 pub fn done(alloc: Global, image: &Image, plan: Plan, work: Work<'_>) -> Result<Left, Unread> {
     done_with(alloc, image, plan, work, &mut None)
 }
 
-/// Reads the archive of an older layout in files that hold what an image says. The archive is there where the answer is no fault.
+/// Reads the archive of an older layout in files with the contents of an image. There is an archive if the answer is no fault.
 pub fn old_of(alloc: Global, image: &Image) -> Result<(Left, Option<OldBook>), Unread> {
     let mut old = None;
     let left = done_with(alloc, image, SOUND, Work::ReadOld, &mut old)?;

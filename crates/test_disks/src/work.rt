@@ -1,4 +1,4 @@
-//! What is done with a database, over any store: each function that names the store of files takes the prover minutes.
+//! What is done with a database, over any store. Each function that names the store of files takes the prover minutes.
 
 use keep::{KeepFault, LATEST};
 use keep_tables::{InOrder, TableKeeper, fault_of};
@@ -10,15 +10,16 @@ use std::alloc::Global;
 use test_rows::{Unread, said};
 use test_story::{Pieces, Task};
 
-/// What came of work: what was told, or the fault where there was no archive or no database; or why a row can't be read.
+/// The result of work: the pieces; the fault if there was no archive or no database; or why a row can't be read.
 pub type Answer = Result<Result<Pieces, KeepFault>, Unread>;
 
-/// Of what an archive is made.
+/// What an archive is made from.
 #[derive(Clone, Copy)]
 pub enum Making<'a> {
-    /// Of a configuration: it is new, and made at 0.
+    /// It is made new, from a configuration, at 0.
     New(&'a [u8]),
-    /// Of what an archive of an older layout holds, under a configuration, with all arrivals as of a moment.
+    /// It is made from the contents of an archive of an older layout, under a configuration, with all arrivals as of a
+    /// moment.
     Migrated {
         old: &'a OldBook,
         config: &'a [u8],
@@ -29,23 +30,23 @@ pub enum Making<'a> {
 /// What is done with a database.
 #[derive(Clone, Copy)]
 pub enum Work<'a> {
-    /// A task of the archive that is there.
+    /// Does a task with the archive that is there.
     Open(Task<'a>),
-    /// A task of an archive that is made.
+    /// Does a task with an archive that is made.
     Make(Making<'a>, Task<'a>),
     /// Opens the archive, and copies the log into the database file.
     Reopen,
-    /// Runs a list of statements past the archive, and copies the log.
+    /// Runs a list of statements without the archive, and copies the log.
     Run(&'a str),
-    /// Counts the rows that a query answers.
+    /// Counts the rows of a query.
     Count(&'a str),
-    /// Opens the archive in a transaction, and again behind its end.
+    /// Opens the archive in a transaction, and again after its end.
     OpenTwice,
     /// Reads the archive of an older layout.
     ReadOld,
 }
 
-/// What came of a task with the archive of a keeper, where there is one; and the connection.
+/// The result of a task with the archive of a keeper, if there is one; and the connection.
 fn with_archive<S: Alter + Drop>(
     alloc: Global,
     keeper: Result<TableKeeper<S>, (Connection<S>, KeepFault)>,
@@ -64,7 +65,7 @@ fn with_archive<S: Alter + Drop>(
     }
 }
 
-/// What came of a task with the archive that is there.
+/// The result of a task with the archive that is there.
 fn opened<S: InOrder + Drop>(
     alloc: Global,
     connection: Connection<S>,
@@ -82,7 +83,7 @@ impl<'a> Making<'a> {
     }
 }
 
-/// The keeper of an archive that is made, of a configuration that can be read.
+/// The keeper of an archive that is made from a configuration that can be read.
 fn made<S: Alter + Drop>(
     alloc: Global,
     connection: Connection<S>,
@@ -107,7 +108,7 @@ fn run<S: Alter>(alloc: Global, connection: &mut Connection<S>, list: &str) -> A
     }
 }
 
-/// How many rows a query answers.
+/// The number of rows of a query.
 fn counted<S: Alter>(alloc: Global, connection: &mut Connection<S>, query: &str) -> Answer {
     match connection.query_all(query, &[]) {
         Ok(rows) => number(alloc, rows.len()),
@@ -144,7 +145,7 @@ pub fn told_fault(alloc: Global, fault: KeepFault) -> Result<Vec<u8>, Unread> {
     }
 }
 
-/// A word where work was done, or the fault.
+/// A word if work was done, or the fault.
 pub fn word_or_fault(
     alloc: Global,
     word: &str,
@@ -156,7 +157,7 @@ pub fn word_or_fault(
     }
 }
 
-/// What came of two openings.
+/// The results of two openings.
 fn both(alloc: Global, within: Answer, behind: Answer) -> Answer {
     let mut text = word_or_fault(alloc, "open", &within?)?;
     text.push(b' ')?;
@@ -164,7 +165,7 @@ fn both(alloc: Global, within: Answer, behind: Answer) -> Answer {
     Ok(Ok(vec![in alloc; text]?))
 }
 
-/// Opens the archive in a transaction, and again behind its end.
+/// Opens the archive in a transaction, and again after its end.
 fn opened_twice<S: InOrder + Drop>(
     alloc: Global,
     connection: Connection<S>,
@@ -180,12 +181,12 @@ fn opened_twice<S: InOrder + Drop>(
 }
 
 impl Work<'_> {
-    /// Whether the log is copied into the database file then.
+    /// Whether the log is then copied into the database file.
     pub fn copies_log(self) -> bool {
         matches!(self, Work::Reopen | Work::Run(_))
     }
 
-    /// Does it, and gives the connection back. An archive of an older layout that is read is put into `old`.
+    /// Does the work, and gives the connection back. An archive of an older layout that is read is put into `old`.
     pub fn perform<S: InOrder + Drop>(
         self,
         alloc: Global,

@@ -1,4 +1,4 @@
-//! A keeper over a disk that fails where it is told to.
+//! A keeper over a disk that fails if it has to.
 
 ghost use Rattle.std.specs.Prelude.{◌≡◌, ◌≤◌, false, IsTrue, IfOk};
 ghost use Rattle.keep.specs.Plain.{fresh_book};
@@ -11,15 +11,15 @@ use std::alloc::Global;
 use suites::{Shelves, Upload};
 use sums::Print;
 
-/// A keeper that takes deliveries, and refuses all else for want of memory. What lies on its disk is what the last delivery left.
-/// A delivery that fails is counted, and shuts the keeper.
+/// A keeper that takes deliveries, and refuses all else for want of memory. Its disk has what the last delivery left. A delivery that
+/// fails is counted, and shuts the keeper.
 #[derive(Drop)]
 pub struct DiskKeeper {
     kept: PlainKeeper,
     fails: bool,
     is_open: bool,
     faults: u64,
-    /// A delivery was cut off, so that what lies on the disk is no archive.
+    /// Whether a delivery was cut off, so that what is on the disk is no archive.
     is_torn: bool,
     ghost whole: { IsTrue is_open → is_torn ≡ false },
 }
@@ -66,7 +66,7 @@ impl Keeper for DiskKeeper {
 
     ghost may_fail = { true };
 
-    /// A crash leaves what lies on the disk.
+    /// A crash leaves what is on the disk.
     ghost may_leave = { λ k left. left ≡ left_of k.is_torn (plain_book k.kept) };
 
     #[tactic(auto, unfolding(keep::specs::Plain::plain_book))]

@@ -1,4 +1,4 @@
-//! A keeper over a disk that fails where it is told to: what the clauses of keepers say of failures is tried on it.
+//! A keeper over a disk that fails if it has to. What the clauses of keepers say of failures is tried on it.
 #![tactic(auto)]
 
 mod disk;

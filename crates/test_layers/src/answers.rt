@@ -1,4 +1,4 @@
-//! What is asked of the layers below the keepers and of the command line, and what they answer.
+//! The questions to the layers below the keepers and to the command line, and their answers.
 
 use crate::out::Out;
 use test_rows::{Answers, Unread, text_of};
@@ -12,18 +12,19 @@ mod of_records;
 mod of_versions;
 mod of_words;
 
-/// The layers below the keepers, and the command line. No row stands on those before it.
+/// The layers below the keepers, and the command line. No row depends on those before it.
 #[derive(Clone, Copy)]
 pub struct Layers;
 
-/// Answers a question on versions, paragraphs or lists. It says whether it is one.
+/// Answers a question on versions, paragraphs or lists, and says whether the words are such a question.
 fn answers_of_texts(out: &mut Out, verb: &str, words: &[Vec<u8>]) -> bool {
     of_versions::answer(out, verb, words)
         || of_paragraphs::answer(out, verb, words)
         || of_lists::answer(out, verb, words)
 }
 
-/// Answers a question on records, configurations, indices, faults or command lines. It says whether it is one.
+/// Answers a question on records, configurations, indices, faults or command lines, and says whether the words
+/// are such a question.
 fn answers_of_archives(out: &mut Out, verb: &str, words: &[Vec<u8>]) -> bool {
     of_records::answer(out, verb, words)
         || of_configs::answer(out, verb, words)

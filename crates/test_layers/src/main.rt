@@ -1,7 +1,7 @@
-//! Rows on the layers below the keepers and on the command line: texts, and what is read of them.
+//! Rows on the layers below the keepers and on the command line: texts, and how they are read.
 //!
-//! A line is printed for each row that differs, and one for each file. The exit status is 0 where each file has rows, all rows can
-//! be read, and none differs; 1 where it is otherwise; 3 where the output fails.
+//! A line is printed for each row that differs, and one for each file. The exit status is 0 if each file has rows, all rows can be
+//! read, and none differs; otherwise it is 1, and 3 if the output fails.
 #![tactic(auto)]
 
 mod answers;

@@ -1,11 +1,11 @@
-//! An answer as it is put together.
+//! An answer that is put together.
 
 use std::alloc::Global;
 use std::fmt::{Debug, Display};
 use std::io::Write;
 use test_rows::{Unread, number_of, text_of};
 
-/// An answer, and why there is none. What is added behind a fault is not looked at.
+/// An answer, or why there is none. What is added after a fault is ignored.
 #[derive(Drop)]
 pub struct Out {
     pub alloc: Global,
@@ -13,7 +13,7 @@ pub struct Out {
     fault: Option<Unread>,
 }
 
-/// A text with a piece of it replaced, wherever that stands.
+/// A text with each occurrence of a piece replaced.
 fn replaced(
     alloc: Global,
     text: &Vec<u8>,
@@ -44,7 +44,7 @@ impl Out {
         }
     }
 
-    /// There is an answer only where memory was had.
+    /// Refuses the answer if there was no memory.
     pub fn note(&mut self, is_had: bool) {
         if !is_had {
             self.refuse(Unread::OutOfMemory);
@@ -70,7 +70,7 @@ impl Out {
         self.add(text.as_bytes());
     }
 
-    /// Adds what is printed of a value.
+    /// Adds the printed form of a value.
     pub fn show<T: Display + Drop>(&mut self, value: T) {
         let is_had = write!(self.text, "{value}").is_ok();
         self.note(is_had);
@@ -87,7 +87,7 @@ impl Out {
         self.say(if is_so { "yes" } else { "no" });
     }
 
-    /// Adds `read`, or the fault; or hands out what was read, where that is to be told.
+    /// Adds `read`, or the fault; or gives what was read, if it is to be printed.
     pub fn read<T: Drop, F: Display + Drop>(
         &mut self,
         read: Result<T, F>,
@@ -134,7 +134,8 @@ impl Out {
         }
     }
 
-    /// The text of the words `TEXT [OLD NEW]..`, with each OLD replaced by its NEW. Only where there are some need it be UTF-8.
+    /// The text of the words `TEXT [OLD NEW]..`, with each OLD replaced by its NEW. It need be UTF-8 only if there are such
+    /// pairs.
     pub fn edited(&mut self, words: &[Vec<u8>]) -> Vec<u8> {
         let mut edited = Vec::new(self.alloc);
         match words {

@@ -1,14 +1,14 @@
-//! What is asked by the rows of a file.
+//! The answers to the rows of a file.
 
 use crate::fault::Unread;
 use std::alloc::Global;
 
-/// What answers the rows of a file, one behind the other.
+/// Answers the rows of a file, one after the other.
 pub trait Answers<R: AllocGlobal>: Drop {
-    /// What answers the rows of a new file.
+    /// A new one for a new file.
     fn fresh(rt: &R) -> Self;
 
-    /// What is answered to the words of a row. The first says what is asked, the others of what.
+    /// The answer to the words of a row. The first word is the question, the others its arguments.
     fn answer(&mut self, rt: &R, words: &[Vec<u8>]) -> Result<Vec<u8>, Unread>;
 }
 

@@ -3,7 +3,7 @@
 use std::alloc::{AllocError, AllocFailed};
 use std::fmt;
 
-/// Why a row can't be read or asked. Nothing behind it is read.
+/// Why a row can't be read or asked. Nothing after it is read.
 #[derive(Clone, Copy)]
 pub enum Unread {
     /// An allocation was refused.
@@ -18,19 +18,19 @@ pub enum Unread {
     NoSuchText,
     /// A name that a text has already.
     NamedTwice,
-    /// Lines of a text behind no row.
+    /// Lines of a text without a row before them.
     NoRow,
     /// A row without an answer.
     NoAnswer,
     /// A first word that asks nothing.
     NoSuchQuestion,
-    /// Too few words, too many, or one that is not what stands there.
+    /// Too few words, too many, or a wrong one.
     BadWords,
     /// A piece to replace that the text does not have.
     NothingToReplace,
     /// A word that is no text in UTF-8.
     NoText,
-    /// A number of repetitions that is none, or too large.
+    /// A number of repetitions that is not valid, or too large.
     BadCount,
     /// A text that does not fill a word to its length.
     NotFilled,

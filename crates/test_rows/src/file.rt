@@ -1,20 +1,21 @@
 //! A file of rows.
 //!
-//! A line that begins with `#`, and an empty one, say nothing. A row is a line of words: what is asked, and of what. Behind the
-//! word `=` stands the answer that is wanted, its words one blank apart. The lines behind a row that begin with `|` are a text,
-//! each with its end: the last word of a row that has an `=`, else its answer.
+//! Empty lines, and lines that begin with `#`, are ignored. A row is a line of words: a question and its arguments. After the
+//! word `=` follows the wanted answer, its words one blank apart. The lines after a row that begin with `|` are a text, each
+//! with its end: the last word of a row that has an `=`, else its answer.
 
 use crate::answers::Answers;
 use crate::fault::Unread;
 use crate::reader::Reader;
 use std::io;
 
-/// How many bytes of a text are printed, and how many of them at most before the first that differs.
+/// The number of bytes of a text that are printed (`SHOWN`), and the most of them that come before the first that differs
+/// (`BEFORE`).
 const SHOWN: usize = 160;
 
 const BEFORE: usize = 80;
 
-/// How many bytes two texts begin with alike.
+/// The number of equal bytes at the beginning of two texts.
 fn alike(one: &[u8], other: &[u8]) -> usize {
     for (place, byte) in one.iter().enumerate() {
         if other.get(place) != Some(byte) {
@@ -24,7 +25,7 @@ fn alike(one: &[u8], other: &[u8]) -> usize {
     one.len()
 }
 
-/// Up to so many bytes of a text from a place on.
+/// Up to `SHOWN` bytes of a text from a place on.
 fn shown(text: &[u8], from: usize) -> &[u8] {
     let rest = text.get(from..).unwrap_or(b"");
     rest.get(..SHOWN).unwrap_or(rest)
@@ -39,7 +40,7 @@ fn tell(rt: &impl Print, reader: &Reader, found: &[u8]) -> io::Result<()> {
     println!(rt; "{label}:{number}: found \"{found}\", wanted \"{wanted}\"")
 }
 
-/// Tells where the answer to the row differs.
+/// Prints how the answer to the row differs, if it does.
 fn compare(rt: &impl Print, reader: &mut Reader, found: &[u8]) {
     reader.rows = reader.rows.saturating_add(1);
     if found != reader.word.as_slice() {

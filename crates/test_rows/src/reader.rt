@@ -1,9 +1,10 @@
 //! A row, line by line and byte by byte.
 //!
-//! A word is bare, up to the next blank, or one or several pieces joined by `+`. A piece is a text in quotes, or `$` and the
-//! name of a text. Behind a text in quotes may stand `*` and how often it comes, or `*..` and how long the word is with it.
-//! In quotes a backslash begins `\n`, `\r`, `\t`, `\\`, `\"`, `\x` and two digits of a byte, or `\i`: how often the text has come
-//! before. The first bare word `=` ends what is asked, and what stands behind it is the answer, its words one blank apart.
+//! A word is bare, up to the next blank, or one or several pieces joined by `+`. A piece is a text in quotes, or `$` and the name
+//! of a text. A text in quotes may be followed by `*` and a number of repetitions, or by `*..` and the length to which it fills
+//! the word. In quotes a backslash begins `\n`, `\r`, `\t`, `\\`, `\"`, `\x` and two digits of a byte, or `\i`: the number of
+//! repetitions of the text before. The first bare word `=` ends the question, and the answer follows it, its words one blank
+//! apart.
 
 use crate::fault::Unread;
 use std::alloc::{AllocError, Global};
@@ -13,7 +14,7 @@ use std::mem::{replace, swap};
 /// The most repetitions, and the most bytes to fill a word to.
 const MOST: usize = 8_388_608;
 
-/// Where a reader stands.
+/// The place of a reader in a row.
 #[derive(Clone, Copy)]
 enum Place {
     /// Outside of quotes.
@@ -22,7 +23,7 @@ enum Place {
     Escape,
     HighDigit,
     LowDigit(u8),
-    /// Behind a `+`.
+    /// After a `+`.
     Joint,
 }
 
@@ -31,32 +32,32 @@ pub struct Reader {
     alloc: Global,
     /// The rows that give a text its name: `text`, the name, and the text.
     pub named: Vec<Vec<Vec<u8>>>,
-    /// How many of them all files of rows may call.
+    /// The number of these texts that all files of rows may use.
     pub shared: usize,
-    /// What stands before each line that is printed of the file.
+    /// The text before each line that is printed for the file.
     pub label: String,
     /// The number of the line.
     line: usize,
     /// The number of the row's line.
     pub number: usize,
-    /// How many rows of the file were asked.
+    /// The number of rows of the file that were asked.
     pub rows: usize,
     /// Whether one of them differs.
     pub differs: bool,
-    /// What is asked.
+    /// The words of the question.
     pub words: Vec<Vec<u8>>,
     /// The word that is read, or the answer.
     pub word: Vec<u8>,
-    /// What stands in quotes, from its number on; or the text behind the row.
+    /// The text in quotes, from its number on; or the text after the row.
     quoted: Vec<u8>,
-    /// What stands in quotes before its number.
+    /// The text in quotes before its number.
     before: Option<Vec<u8>>,
-    /// What stands outside of quotes.
+    /// The text outside of quotes.
     bare: Vec<u8>,
     is_quoted: bool,
-    /// Whether the line is one of the text behind the row.
+    /// Whether the line belongs to the text after the row.
     is_text: bool,
-    /// Whether the text behind the row is its last word, and not the answer.
+    /// Whether the text after the row is its last word, and not the answer.
     takes_text: bool,
     place: Place,
     /// Why the file can't be read.
@@ -152,7 +153,7 @@ impl Reader {
         }
     }
 
-    /// Says why the file can't be read. What is read of it from there on is not asked.
+    /// Records why the file can't be read. What is read of it from there on is not asked.
     pub fn refuse(&mut self, fault: Unread) {
         if self.fault.is_none() {
             self.fault = Some(fault);
@@ -179,7 +180,7 @@ impl Reader {
         self.clear();
     }
 
-    /// Has no row open.
+    /// Closes the row.
     pub fn clear(&mut self) {
         self.words.clear();
         self.word.clear();
@@ -194,7 +195,7 @@ impl Reader {
         self.bare.clear();
     }
 
-    /// Takes a line: `#` or nothing, the text behind the row with `|` before it, or a row.
+    /// Takes a line: a comment after `#`, an empty line, the text after the row with `|` before it, or a row.
     pub fn take_line(&mut self, line: &[u8]) {
         self.line = self.line.saturating_add(1);
         match line {
@@ -229,7 +230,7 @@ impl Reader {
         }
     }
 
-    /// Ends the line of a row. Of the answer the last blank is no part.
+    /// Ends the line of a row. The last blank does not belong to the answer.
     fn end_row(&mut self) {
         if self.takes_text && self.word.pop().is_none() {
             self.refuse(Unread::NoAnswer);
@@ -242,7 +243,7 @@ impl Reader {
         }
     }
 
-    /// Ends the row that is open, and says whether it asks something. One that names a text does not.
+    /// Ends the row that is open, and says whether it asks something. A row that names a text does not.
     pub fn ends_question(&mut self) -> bool {
         if self.words.is_empty() {
             return false;
@@ -255,7 +256,7 @@ impl Reader {
         self.fault.is_none()
     }
 
-    /// Has the text behind the row as its last word or its answer.
+    /// Takes the text after the row as its last word or its answer.
     fn end_text(&mut self) {
         if !self.takes_text {
             swap(&mut self.word, &mut self.quoted);
@@ -268,7 +269,7 @@ impl Reader {
         }
     }
 
-    /// Gives the last word of the row its name, which no other has.
+    /// Gives the last word of the row its name, which no other text has.
     fn name_text(&mut self) {
         match self.words.as_slice() {
             [_, name, _] => match text_named(&self.named, name) {
@@ -324,7 +325,7 @@ impl Reader {
         }
     }
 
-    /// Takes the first byte of a piece behind a `+`.
+    /// Takes the first byte of a piece after a `+`.
     fn take_joint(&mut self, byte: u8) {
         self.place = Place::Bare;
         match byte {
@@ -341,14 +342,14 @@ impl Reader {
         }
     }
 
-    /// Adds a byte to what stands in quotes.
+    /// Adds a byte to the text in quotes.
     fn push(&mut self, byte: u8) {
         self.place = Place::Quoted;
         let done = self.quoted.extend_from_slice(&[byte]);
         self.note(done);
     }
 
-    /// Takes the byte behind a backslash.
+    /// Takes the byte after a backslash.
     fn take_escape(&mut self, byte: u8) {
         match byte {
             b'n' => self.push(b'\n'),
@@ -408,7 +409,7 @@ impl Reader {
         }
     }
 
-    /// Adds what stands since the last `+` or blank to the word.
+    /// Adds what follows the last `+` or blank to the word.
     fn end_piece(&mut self, place: Place) {
         if self.is_quoted {
             self.add_quoted();
@@ -431,7 +432,7 @@ impl Reader {
         self.note(done);
     }
 
-    /// Adds what stands in quotes, as often as what is behind it says.
+    /// Adds the text in quotes, as often as the number after it says.
     fn add_quoted(&mut self) {
         match self.bare.as_slice() {
             [] => self.add(0),
@@ -447,7 +448,7 @@ impl Reader {
         }
     }
 
-    /// Adds what stands in quotes until the word is so long.
+    /// Adds the text in quotes until the word has this length.
     fn fill(&mut self, length: usize) {
         self.repeat(length, length);
         if self.word.len() != length {
@@ -455,7 +456,7 @@ impl Reader {
         }
     }
 
-    /// Adds what stands in quotes so often, while the word is shorter.
+    /// Adds the text in quotes as often as `times` says, while the word is shorter than `length`.
     fn repeat(&mut self, times: usize, length: usize) {
         for number in 0..times {
             if self.word.len() < length {
@@ -464,7 +465,7 @@ impl Reader {
         }
     }
 
-    /// Adds what stands in quotes once, with its number.
+    /// Adds the text in quotes once, with its number.
     fn add(&mut self, number: usize) {
         if let Some(before) = &self.before {
             let done = add_number(&mut self.word, before, number);

@@ -8,7 +8,7 @@ use std::alloc::{AllocError, Global};
 use std::rt::{Env, Files};
 use std::{env, fs, io};
 
-/// Prints how many rows a file has, and answers whether it is as it is wanted. Of texts alone nothing is printed.
+/// Prints how many rows a file has, and answers whether it is as wanted. For a file of texts nothing is printed.
 fn count_rows(rt: &impl Print, label: &str, rows: usize, differs: bool) -> io::Result<bool> {
     let has_texts = label.ends_with(".texts");
     if rows > 0 || !has_texts {
@@ -18,7 +18,7 @@ fn count_rows(rt: &impl Print, label: &str, rows: usize, differs: bool) -> io::R
     Ok((rows > 0) != has_texts && !differs)
 }
 
-/// Prints why a file can't be read, if that is so, or how many rows it has. It answers whether it is as it is wanted.
+/// Prints why a file can't be read, or how many rows it has. It answers whether the file is as wanted.
 fn report(rt: &impl Print, reader: &Reader) -> io::Result<bool> {
     let (label, number) = (reader.label.as_str(), reader.number);
     let Some(fault) = reader.fault else {
@@ -43,7 +43,7 @@ fn check_file<A: Answers<R>, R: Files + Print + AllocGlobal>(
     report(rt, reader)
 }
 
-/// Does the rows of the files whose names end so, and answers whether all are as they are wanted.
+/// Does the rows of the files whose names have this ending, and answers whether all are as wanted.
 fn check_files<A: Answers<R>, R: Files + Print + AllocGlobal>(
     rt: &R,
     reader: &mut Reader,
@@ -94,7 +94,7 @@ fn files_of<R: Files + Env + AllocGlobal + Clone + Drop>(rt: &R) -> io::Result<V
     Ok(names)
 }
 
-/// Does the rows of all files, those of texts first. It answers whether there is a file of rows, and all are as they are wanted.
+/// Does the rows of all files, those of texts first. It answers whether there is a file of rows, and all are as wanted.
 fn check_all<A: Answers<R>, R: Files + Print + AllocGlobal>(
     rt: &R,
     reader: &mut Reader,
@@ -108,9 +108,9 @@ fn check_all<A: Answers<R>, R: Files + Print + AllocGlobal>(
     Ok(texts && rows && reader.rows > 0)
 }
 
-/// Does the rows of the files that are named on the command line, or of all of this folder, whose names end in `.texts` or in this
-/// ending. It prints a line for each row that differs, and one for each file with its number of rows; the heading stands before each line. It
-/// answers whether there is a file of rows, each has rows, all rows can be read, and none differs.
+/// Does the rows of the files that are named on the command line, or of all files of this folder, whose names end in `.texts` or in this
+/// ending. It prints a line for each row that differs, and one for each file with its number of rows, each after the heading. It answers
+/// whether there is a file of rows, each has rows, all rows can be read, and none differs.
 ///
 /// A file whose name ends in `.texts` has no rows, and the names of its texts are known in the files of rows.
 pub fn report_files<A: Answers<R>, R: Files + Env + Print + AllocGlobal + Clone + Drop>(

@@ -1,5 +1,5 @@
-//! Calls of an archive that are read from a row first, then made, and told of last: while one is made nothing grows but what it makes
-//! grow itself.
+//! Calls of an archive that are first read from a row, then made, and printed last: while a call is made nothing grows except by the
+//! call itself.
 
 use crate::configurations::{NotConfigured, configured, told};
 use crate::drives::{add_commands, command_of, outcome_text, outcomes_text};
@@ -12,16 +12,16 @@ use queue::{Archive, Command, Fault, Outcome};
 use std::alloc::{AllocError, Global};
 use test_rows::{Unread, number_of, text_of};
 
-/// How many bytes come a read.
+/// The number of bytes that come in one read.
 const MOST: usize = 4096;
 
-/// How a reply begins that tells of want of memory.
+/// The beginning of a reply that reports want of memory.
 const NO_MEMORY: &[u8] = b"HTTP/1.1 507 ";
 
 /// A call.
 #[derive(Drop)]
 pub enum Call {
-    /// A command by itself.
+    /// A single command.
     One(Command),
     /// A list of commands.
     List(Vec<Command>),
@@ -29,11 +29,11 @@ pub enum Call {
     Receive(String, Vec<u8>),
     /// A request at a moment.
     Request(u64, Vec<u8>),
-    /// The text of a configuration that the archive gets, and the moment.
+    /// The text of a configuration that the archive is given, and the moment.
     Configure(u64, Vec<u8>),
 }
 
-/// What a call was answered.
+/// The answer to a call.
 #[derive(Drop)]
 pub enum Answered {
     One(Outcome),
@@ -43,7 +43,7 @@ pub enum Answered {
     Configured(Result<(), NotConfigured>),
 }
 
-/// Makes a command by itself.
+/// Makes a single command.
 fn one<K: Keeper>(alloc: Global, archive: &mut Archive<K>, command: &Command) -> Outcome {
     match command {
         Command::Deliver { name, body, moment } => {
@@ -118,7 +118,7 @@ fn request_of(alloc: Global, words: &[Vec<u8>]) -> Result<Call, Unread> {
     }
 }
 
-/// A configuration that the archive gets: its words are a moment and a text.
+/// A configuration that the archive is given: its words are a moment and a text.
 fn configuration_of(alloc: Global, words: &[Vec<u8>]) -> Result<Call, Unread> {
     match words {
         [moment, text] => Ok(Call::Configure(
@@ -149,7 +149,7 @@ fn list_of(alloc: Global, words: &[Vec<u8>]) -> Result<Call, Unread> {
 
 impl Call {
     /// The call of a row: `request MOMENT BYTES`, `receive NAME BODY`, `configure MOMENT CONFIG`, `drive COMMAND ; COMMAND ..`, or a
-    /// command as it stands in such a list.
+    /// command as such a list has it.
     pub fn read(alloc: Global, words: &[Vec<u8>]) -> Result<Call, Unread> {
         let Some((verb, rest)) = words.split_first() else {
             return Err(Unread::BadWords);
@@ -163,7 +163,7 @@ impl Call {
         }
     }
 
-    /// Makes it. A reply is written into the room.
+    /// Makes the call. A reply is written into the room.
     pub fn make<K: Keeper>(
         &self,
         alloc: Global,
@@ -220,7 +220,7 @@ impl Answered {
         }
     }
 
-    /// What is printed of it.
+    /// The printed form of the answer.
     pub fn text(self, alloc: Global) -> Result<Vec<u8>, Unread> {
         match self {
             Answered::One(outcome) => outcome_text(alloc, outcome),

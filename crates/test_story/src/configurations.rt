@@ -7,7 +7,7 @@ use rules::{Config, ConfigFault};
 use std::alloc::Global;
 use test_rows::{Unread, number_of, said};
 
-/// Why an archive gets no other configuration.
+/// Why an archive is not given another configuration.
 #[derive(Clone, Copy, Debug)]
 pub enum NotConfigured {
     OutOfMemory,
@@ -18,7 +18,7 @@ pub enum NotConfigured {
     Late,
 }
 
-/// Gives an archive the configuration that a text is, at a moment.
+/// Gives an archive the configuration of a text, at a moment.
 pub fn configured<K: Keeper>(
     alloc: Global,
     archive: &mut Archive<K>,

@@ -12,7 +12,7 @@ pub struct Delivery {
     pub moment: u64,
 }
 
-/// The words `NAME [MOMENT] BODY`, and the pairs of words behind them.
+/// The words `NAME [MOMENT] BODY`, and the pairs of words after them.
 fn split_delivery(words: &[Vec<u8>]) -> Result<(&Vec<u8>, u64, &Vec<u8>, &[Vec<u8>]), Unread> {
     match words {
         [name, moment, body, pairs @ ..] if pairs.len() % 2 == 0 => {
@@ -31,8 +31,8 @@ fn owned_text(word: Vec<u8>) -> Result<String, Unread> {
     }
 }
 
-/// The delivery of the words `NAME [MOMENT] BODY [OLD NEW]..`: with no moment it is 0, and each OLD is replaced by its NEW in the name
-/// and in the body.
+/// The delivery of the words `NAME [MOMENT] BODY [OLD NEW]..`. Without a moment it is at 0. Each OLD is replaced by its NEW in the
+/// name and in the body.
 pub fn delivery_of(alloc: Global, words: &[Vec<u8>]) -> Result<Delivery, Unread> {
     let (name, moment, body, pairs) = split_delivery(words)?;
     let mut name = Vec::from_slice(alloc, name.as_slice())?;

@@ -1,4 +1,4 @@
-//! Where what an archive shows is not what it was to show.
+//! Differences between what an archive shows and what is wanted.
 
 use std::alloc::{AllocError, Global};
 
@@ -20,7 +20,7 @@ fn differing<'a>(found: &'a [Vec<u8>], wanted: &'a [Vec<u8>]) -> (&'a [u8], &'a 
     (last_of(found), last_of(wanted))
 }
 
-/// Says where what was told is not what it was to be.
+/// Says how the pieces that were found differ from the wanted ones.
 pub fn difference(
     alloc: Global,
     found: &[Vec<u8>],

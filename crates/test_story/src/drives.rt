@@ -62,7 +62,7 @@ fn look_up(alloc: Global, words: &[Vec<u8>]) -> Result<Command, Unread> {
     }
 }
 
-/// A command: its words as a row has them, but for `fetch` in the place of `show`.
+/// A command. Its words are those of a row, but with `fetch` instead of `show`.
 pub fn command_of(alloc: Global, words: &[Vec<u8>]) -> Result<Command, Unread> {
     let Some((verb, words)) = words.split_first() else {
         return Err(Unread::BadWords);
@@ -117,7 +117,7 @@ pub fn outcome_text(alloc: Global, outcome: Outcome) -> Result<Vec<u8>, Unread> 
     }
 }
 
-/// Adds an answer, with a newline where it does not end in one.
+/// Adds an answer, and a newline if it does not end in one.
 fn add_answer(text: &mut Vec<u8>, answer: &[u8]) -> Result<(), Unread> {
     text.extend_from_slice(answer)?;
     if answer.last() != Some(&b'\n') {
@@ -126,13 +126,13 @@ fn add_answer(text: &mut Vec<u8>, answer: &[u8]) -> Result<(), Unread> {
     Ok(())
 }
 
-/// Adds what a command answered.
+/// Adds the answer to a command.
 fn add_outcome(alloc: Global, text: &mut Vec<u8>, outcome: Outcome) -> Result<(), Unread> {
     let answer = outcome_text(alloc, outcome)?;
     add_answer(text, &answer)
 }
 
-/// What each command of a list answered, each ended by a newline.
+/// The answers to the commands of a list, each ended by a newline.
 pub fn outcomes_text(alloc: Global, outcomes: Vec<Outcome>) -> Result<Vec<u8>, Unread> {
     let mut text = Vec::new(alloc);
     for outcome in outcomes {
@@ -141,7 +141,7 @@ pub fn outcomes_text(alloc: Global, outcomes: Vec<Outcome>) -> Result<Vec<u8>, U
     Ok(text)
 }
 
-/// `drive COMMAND ; COMMAND ..`: what each command of the list answers, one behind the other, each ended by a newline.
+/// `drive COMMAND ; COMMAND ..`: the answer to each command of the list, one after the other, each ended by a newline.
 pub fn drive<K: Keeper>(
     alloc: Global,
     archive: &mut Archive<K>,

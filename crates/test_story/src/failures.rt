@@ -10,10 +10,10 @@ use rules::Config;
 use std::alloc::Global;
 use test_rows::{Unread, said};
 
-/// How many bytes come a read.
+/// The number of bytes that come in one read.
 const MOST: usize = 7;
 
-/// When requests come that are cut, or whose reply can't be written. Those before them come at 0.
+/// The moment of requests that are cut, or whose reply can't be written. The requests before them come at 0.
 const LATER: u64 = 86_400;
 
 /// The reply to each request that ends early.
@@ -28,14 +28,14 @@ fn only_word(words: &[Vec<u8>]) -> Result<&[u8], Unread> {
     }
 }
 
-/// Where it was otherwise, and what was written there.
+/// Says after how many bytes something went wrong, and what was written there.
 fn otherwise(alloc: Global, place: usize, written: &[u8]) -> Result<Vec<u8>, Unread> {
     let mut text = format!(in alloc; "behind {place} bytes: ")?.into_bytes();
     text.extend_from_slice(written)?;
     Ok(text)
 }
 
-/// The reply to bytes behind which nothing comes, where it is not the one that is wanted, or some are left unread.
+/// The reply to bytes after which nothing comes, if it is not the wanted one, or if some bytes are left unread.
 fn beside_end<K: Keeper>(
     alloc: Global,
     archive: &mut Archive<K>,
@@ -54,7 +54,7 @@ fn beside_end<K: Keeper>(
     Ok(Some(reply))
 }
 
-/// What is written to bytes behind which the reader fails, where that is not told, or some is written.
+/// What is written in reply to bytes after which the reader fails, if that is not reported, or if something is written.
 fn beside_failure<K: Keeper>(
     alloc: Global,
     archive: &mut Archive<K>,
@@ -73,9 +73,9 @@ fn beside_failure<K: Keeper>(
     Some(writer)
 }
 
-/// `cut BYTES`: `nothing delivered`, where a request that is cut at any of its bytes is answered 400, and nothing where no byte comes;
-/// `reader-fails BYTES`: the same, where a reader that fails at any byte of the request is told as H1, and nothing is written. Else
-/// where it was otherwise.
+/// `cut BYTES`: `nothing delivered`, if a request that is cut after any number of its bytes is answered 400, and if no reply comes when no
+/// byte does. `reader-fails BYTES`: `nothing delivered`, if a reader that fails at any byte of the request is answered with the fault H1,
+/// and nothing is written. Otherwise both say where it went wrong.
 pub fn cut<K: Keeper>(
     alloc: Global,
     archive: &mut Archive<K>,
@@ -97,7 +97,7 @@ pub fn cut<K: Keeper>(
     said(alloc, "nothing delivered")
 }
 
-/// A request that is made twice of a new archive, behind others, and both replies.
+/// A request that is made twice to a new archive, after others, and both replies.
 #[derive(Drop)]
 struct Twice<'a> {
     config: &'a [u8],
@@ -118,7 +118,7 @@ fn fresh<K: Keeper, M: Makes<K>>(alloc: Global, config: &[u8]) -> Result<Archive
     }
 }
 
-/// A new archive of a configuration, of which requests were made.
+/// A new archive of a configuration, to which requests were made.
 fn fresh_behind<K: Keeper + Drop, M: Makes<K>>(
     alloc: Global,
     config: &[u8],
@@ -168,8 +168,8 @@ fn asked_twice<'a, K: Keeper + Drop, M: Makes<K>>(
     })
 }
 
-/// What is written where the writer of the first reply is full behind so many bytes, where that is not told, or not those bytes of it are
-/// written.
+/// What is written if the writer of the first reply is full after `room` bytes, but only if that is not reported, or if other bytes than
+/// these of the reply are written.
 fn beside_full<K: Keeper>(
     alloc: Global,
     archive: &mut Archive<K>,
@@ -191,7 +191,7 @@ fn beside_full<K: Keeper>(
     Some(writer.taken)
 }
 
-/// What is written of a new archive whose first reply can't be written, or else its second reply; where it is not as it is wanted.
+/// What is written by a new archive whose first reply can't be written, or else its second reply; only if it is not the wanted one.
 fn beside_full_of<K: Keeper + Drop, M: Makes<K>>(
     alloc: Global,
     twice: &Twice<'_>,
@@ -209,7 +209,7 @@ fn beside_full_of<K: Keeper + Drop, M: Makes<K>>(
     Ok(Some(second))
 }
 
-/// Where it was otherwise with a writer that is full behind so many bytes, if it was.
+/// Says where it went wrong with a writer that is full after `room` bytes, if it did.
 fn told_full<K: Keeper + Drop, M: Makes<K>>(
     alloc: Global,
     twice: &Twice<'_>,
@@ -222,7 +222,7 @@ fn told_full<K: Keeper + Drop, M: Makes<K>>(
     }
 }
 
-/// The same at each byte, and where the reply can't be flushed.
+/// Says where it went wrong with a writer that is full after any number of bytes, or that can't flush the reply, if it did.
 fn told_each<K: Keeper + Drop, M: Makes<K>>(
     alloc: Global,
     twice: &Twice<'_>,
@@ -239,9 +239,9 @@ fn told_each<K: Keeper + Drop, M: Makes<K>>(
     told_full::<K, M>(alloc, twice, length, Full::FailsToFlush)
 }
 
-/// `writer-fails [REQUEST..] REQUEST`: `done`, where a new archive, behind the first requests, whose reply to the last can't be written from
-/// any of its bytes on, or can't be flushed, tells this as H2, writes the bytes before, and answers the same request then as if the
-/// reply had been written; else where it was otherwise.
+/// `writer-fails [REQUEST..] REQUEST`: the reply to the last request can't be written from any of its bytes on, or can't be flushed. The
+/// answer is `done` if a new archive, after the first requests, then answers with the fault H2, writes the bytes before, and answers the
+/// request when it is repeated as if the reply had been written. Otherwise it says where it went wrong.
 pub fn writer_fails<K: Keeper + Drop, M: Makes<K>>(
     alloc: Global,
     config: &[u8],

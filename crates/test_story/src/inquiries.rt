@@ -1,4 +1,4 @@
-//! What is asked about what suites show, and about uploads: what those lack that wait, and why others have their verdicts.
+//! Questions on what suites show, and on uploads: what the waiting uploads lack, and why others have their verdicts.
 
 use crate::outcomes::report_text;
 use crate::steps::{moment_of, path_of};
@@ -27,7 +27,7 @@ fn listed<K: Keeper>(
     })
 }
 
-/// `list SUITE`: a line for each item that it shows, or the fault.
+/// `list SUITE`: a line for each item that the suite shows, or the fault.
 pub fn list<K: Keeper>(
     alloc: Global,
     archive: &mut Archive<K>,
@@ -36,7 +36,7 @@ pub fn list<K: Keeper>(
     report_text(alloc, listed(alloc, archive, path_of(words)?))
 }
 
-/// Adds the lines on a listed file that is lacked.
+/// Adds the lines on a listed file that an upload lacks.
 fn push_lack(alloc: Global, lines: &mut Vec<String>, lack: &Lack) -> Result<(), AllocError> {
     let name = lack.name.as_str();
     let word = if lack.is_ended { "ended" } else { "lacks" };
@@ -91,8 +91,8 @@ fn lacking<K: Keeper>(
     Ok(Report { lines })
 }
 
-/// `lacks NAME [MOMENT]`: of each upload of that name that waits, `lacks FILE` or `ended FILE` for each file that it lacks, and `came FILE
-/// SIZE` for what came in its place; or `whole`. Nothing, where none waits.
+/// `lacks NAME [MOMENT]`: for each waiting upload of that name, `lacks FILE` or `ended FILE` for each file that it lacks, and `came FILE
+/// SIZE` for what came in its place; or `whole`. The answer is empty if no such upload waits.
 pub fn lacks<K: Keeper>(
     alloc: Global,
     archive: &mut Archive<K>,
@@ -105,7 +105,7 @@ pub fn lacks<K: Keeper>(
     report_text(alloc, lacking(alloc, archive, name, moment))
 }
 
-/// A word for what a verdict is about, and its name or that of its file.
+/// A word for the subject of a verdict, and its name or that of its file.
 fn about(named: &Named) -> (&'static str, &str) {
     match named {
         Named::Distribution { name } => ("distribution", name.as_str()),
@@ -127,7 +127,7 @@ fn about(named: &Named) -> (&'static str, &str) {
     }
 }
 
-/// A verdict, and what it is about.
+/// A verdict, and its subject.
 fn reason_text(alloc: Global, reason: &Reason) -> Result<String, AllocError> {
     let number = reason.verdict.number();
     match &reason.named {
@@ -139,7 +139,7 @@ fn reason_text(alloc: Global, reason: &Reason) -> Result<String, AllocError> {
     }
 }
 
-/// The verdict that an upload would have now, and what that is about.
+/// The verdict that an upload would have now, and its subject.
 fn judged_now(
     alloc: Global,
     config: &Config,
@@ -182,7 +182,7 @@ fn reasons_of<K: Keeper>(
     Ok(Report { lines })
 }
 
-/// `reason NAME`: for each judged upload of that name the verdict that it would have now, with what that is about, or `cleaned`.
+/// `reason NAME`: for each judged upload of that name the verdict that it would have now, with its subject, or `cleaned`.
 pub fn reason<K: Keeper>(
     alloc: Global,
     archive: &mut Archive<K>,

@@ -1,5 +1,5 @@
 //! Stories of archives, as rows: deliveries, runs, copies, promotions, removals, cleanings, configurations, look-ups and requests, over
-//! any keeper; and all that an archive shows.
+//! any keeper; and everything that an archive shows.
 #![tactic(auto)]
 
 mod calls;

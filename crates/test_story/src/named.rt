@@ -22,7 +22,7 @@ impl Names {
         Ok(())
     }
 
-    /// Takes a line by what stands on both sides of its last space.
+    /// Takes a line by the parts before and after its last space.
     fn take(&mut self, front: &str, word: &str) -> Result<(), AllocError> {
         if front == "Codename:" {
             self.folder = format!(in self.alloc; "dists/{word}")?;
@@ -52,7 +52,8 @@ impl Names {
     }
 }
 
-/// The paths that an index names: a Release file the other indices of its suite, each of these the files of the pool.
+/// The paths that an index names: a Release file names the other indices of its suite, and each of these names files
+/// of the pool.
 pub fn paths_in(alloc: Global, index: &str) -> Result<Vec<Vec<u8>>, AllocError> {
     let mut names = Names {
         alloc,

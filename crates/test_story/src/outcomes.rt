@@ -1,11 +1,11 @@
-//! What calls of an archive answer, as texts.
+//! The answers to calls of an archive, as texts.
 
 use queue::{Arrived, Fault, Promotion, Report, SourceCopy};
 use std::alloc::Global;
 use std::fmt::Display;
 use test_rows::{Unread, said};
 
-/// What is printed of a value.
+/// The printed form of a value.
 pub fn printed<T: Display>(alloc: Global, value: &T) -> Result<Vec<u8>, Unread> {
     Ok(value.to_string(alloc)?.into_bytes())
 }

@@ -3,7 +3,7 @@
 use std::alloc::Global;
 use test_rows::{Unread, text_of};
 
-/// Replaces a piece wherever it stands in a text, and says whether it does.
+/// Replaces each occurrence of a piece in a text, and says whether there is one.
 fn replace_piece(alloc: Global, text: &mut Vec<u8>, piece: &str, by: &str) -> Result<bool, Unread> {
     let old = text_of(text)?;
     if !old.contains(piece) {
@@ -13,7 +13,7 @@ fn replace_piece(alloc: Global, text: &mut Vec<u8>, piece: &str, by: &str) -> Re
     Ok(true)
 }
 
-/// Replaces a piece in each of two texts, one of which has it. The words are what stands there, and what is to stand there.
+/// Replaces a piece in two texts, one of which has it. The words are the old piece and the new one.
 fn replace_pair(
     alloc: Global,
     name: &mut Vec<u8>,
@@ -32,7 +32,7 @@ fn replace_pair(
     }
 }
 
-/// Replaces pieces in a text and in its name: of each two words the first is what stands there, and the second what is to stand there.
+/// Replaces pieces in a text and in its name: of each two words the first is the old piece, and the second the new one.
 pub fn replace_pieces(
     alloc: Global,
     name: &mut Vec<u8>,

@@ -3,7 +3,7 @@
 use std::io;
 use std::io::{ErrorKind, Read, Write};
 
-/// Bytes that come at most so many a read, and a failure behind them where one is wanted.
+/// Bytes that come at most `most` in one read, with a failure after them if one is wanted.
 #[derive(Drop)]
 pub struct Pieces<'a> {
     pub bytes: &'a [u8],
@@ -32,7 +32,7 @@ pub enum Full {
     FailsToFlush,
 }
 
-/// A writer that takes so many bytes, one at a time.
+/// A writer that takes `room` bytes, one at a time.
 #[derive(Drop)]
 pub struct Narrow {
     pub taken: Vec<u8>,

@@ -1,4 +1,4 @@
-//! What is read of a connection: what a request asks, or why it is refused.
+//! What is read of a connection: what a request asks for, or why it is refused.
 
 use crate::readers::Pieces;
 use desk::Desk;
@@ -9,7 +9,7 @@ use std::alloc::{AllocError, Global};
 use std::fmt::Write;
 use test_rows::Unread;
 
-/// How many bytes come a read.
+/// The numbers of bytes that come in one read.
 const SIZES: [usize; 4] = [1, 2, 7, 1000];
 
 /// Adds `nothing`, the status of a refusal, `asks` for a command, or `H1`.
@@ -25,7 +25,7 @@ fn add_status(text: &mut String, read: &Result<Request, ReaderFailed>) -> Result
     }
 }
 
-/// What a request is answered, and how many bytes are left.
+/// The answer to a request, and the number of bytes that are left.
 fn status_text(
     alloc: Global,
     read: &Result<Request, ReaderFailed>,
@@ -37,7 +37,7 @@ fn status_text(
     Ok(text)
 }
 
-/// The answer to bytes that come at most so many a read, and how many of them are left.
+/// The answer to bytes that come at most `most` in one read, and the number of them that are left.
 fn status_at(alloc: Global, bytes: &[u8], most: usize) -> Result<String, AllocError> {
     let mut reader = Pieces {
         bytes,
@@ -48,7 +48,7 @@ fn status_at(alloc: Global, bytes: &[u8], most: usize) -> Result<String, AllocEr
     status_text(alloc, &read, reader.bytes.len())
 }
 
-/// The answer where it is another than the first.
+/// The answer, if it differs from the first.
 fn other_status(
     alloc: Global,
     bytes: &[u8],
@@ -63,8 +63,8 @@ fn other_status(
     Ok(Some(told.into_bytes()))
 }
 
-/// `status BYTES`: what the head of a request is answered before the archive is called, and how many bytes behind it are left unread,
-/// however many come a read.
+/// `status BYTES`: the answer to the head of a request before the archive is called, and the number of bytes after it that are left
+/// unread, for several numbers of bytes in one read.
 pub fn status(alloc: Global, words: &[Vec<u8>]) -> Result<Vec<u8>, Unread> {
     let [bytes] = words else {
         return Err(Unread::BadWords);
@@ -78,7 +78,7 @@ pub fn status(alloc: Global, words: &[Vec<u8>]) -> Result<Vec<u8>, Unread> {
     Ok(first.into_bytes())
 }
 
-/// Adds a command with what it is to do.
+/// Adds a command and its arguments.
 fn add_wanted(text: &mut String, wanted: &Wanted) -> Result<(), AllocError> {
     match wanted {
         Wanted::Deliver { name, length } => write!(text, "deliver {name:?} {length}"),
@@ -96,7 +96,7 @@ fn add_wanted(text: &mut String, wanted: &Wanted) -> Result<(), AllocError> {
     }
 }
 
-/// Adds the status of a refusal, and the method that is wanted in place of another.
+/// Adds the status of a refusal, and the method that is wanted instead.
 fn add_refusal(text: &mut String, refusal: Refusal) -> Result<(), AllocError> {
     let status = refusal.status().as_u16();
     match refusal.into_allowed() {

@@ -7,11 +7,11 @@ use queue::{Archive, Arrived, Fault};
 use std::alloc::Global;
 use test_rows::{Unread, number_of, said, text_of};
 
-/// The most bytes a read.
+/// The most bytes of one read.
 const MOST: u64 = 8_388_608;
 
-/// What a delivery is answered whose body comes at most so many bytes a read, and how many bytes are left unread. Behind them
-/// the reader ends, or fails.
+/// The answer to a delivery whose body comes at most `most` bytes in one read, and the number of bytes that are left unread. After
+/// these bytes the reader ends, or fails.
 fn received<K: Keeper>(
     alloc: Global,
     archive: &mut Archive<K>,
@@ -36,7 +36,7 @@ fn received<K: Keeper>(
     Ok(text)
 }
 
-/// `receive MOST MOMENT NAME SIZE BYTES`: `new`, `again`, or the fault, and how many bytes are left unread.
+/// `receive MOST MOMENT NAME SIZE BYTES`: `new`, `again`, or the fault, and the number of bytes that are left unread.
 pub fn receive<K: Keeper>(
     alloc: Global,
     archive: &mut Archive<K>,
@@ -45,7 +45,7 @@ pub fn receive<K: Keeper>(
     received(alloc, archive, words, false)
 }
 
-/// `receive-fails MOST MOMENT NAME SIZE BYTES`: the same of a reader that fails behind these bytes.
+/// `receive-fails MOST MOMENT NAME SIZE BYTES`: the answer as for `receive`, if the reader fails after these bytes.
 pub fn receive_fails<K: Keeper>(
     alloc: Global,
     archive: &mut Archive<K>,
@@ -54,7 +54,7 @@ pub fn receive_fails<K: Keeper>(
     received(alloc, archive, words, true)
 }
 
-/// What a delivery is answered whose reader fails behind so many bytes of the body, where that is not told as Q10, or bytes are left.
+/// The answer to a delivery whose reader fails after some bytes of the body, if it is not Q10, or if bytes are left.
 fn beside_failure<K: Keeper>(
     alloc: Global,
     archive: &mut Archive<K>,
@@ -74,8 +74,8 @@ fn beside_failure<K: Keeper>(
     Some(done)
 }
 
-/// `receive-fails-each NAME BODY`: `nothing delivered`, where a delivery whose reader fails behind any number of bytes of its body, but
-/// not all, is told as Q10; else what it was answered, and behind how many bytes.
+/// `receive-fails-each NAME BODY`: `nothing delivered`, if a delivery whose reader fails after any number of bytes of its body, but not
+/// all, is refused with Q10; otherwise the answer, and after how many bytes.
 pub fn receive_fails_each<K: Keeper>(
     alloc: Global,
     archive: &mut Archive<K>,

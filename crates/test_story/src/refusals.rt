@@ -1,11 +1,11 @@
 //! Answers of an archive whose disk failed.
 
-/// The answer of an archive whose disk failed, and its beginning where behind it stands how many bytes a reader has left.
+/// The answer of an archive whose disk failed. The number of bytes that a reader has left may follow it.
 const REFUSED: &[u8] = b"Q4 K2";
 
 const REFUSED_BESIDE: &[u8] = b"Q4 K2 ";
 
-/// The answer where it was to take another configuration.
+/// The answer of such an archive to another configuration.
 const REFUSED_ALONE: &[u8] = b"K2";
 
 /// Whether a text has a line.
@@ -18,7 +18,7 @@ pub fn is_refused_line(line: &[u8]) -> bool {
     line == REFUSED || line == REFUSED_ALONE || line.starts_with(REFUSED_BESIDE)
 }
 
-/// Whether an answer is the right one, but all of it or some was refused since the disk failed.
+/// Whether an answer is the right one, except that all or some of it was refused because the disk failed.
 pub fn is_refusal(answer: &[u8], right: &[u8]) -> bool {
     for line in answer.split(|byte| *byte == b'\n') {
         if !is_refused_line(line) && !has_line(right, line) {

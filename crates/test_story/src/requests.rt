@@ -9,10 +9,10 @@ use queue::Archive;
 use std::alloc::{AllocError, Global};
 use test_rows::{Unread, number_of, said};
 
-/// The most bytes a read.
+/// The most bytes of one read.
 const MOST: u64 = 8_388_608;
 
-/// Whether what was written is the reply that is told of.
+/// Whether what was written is the reply that `served` names.
 fn is_told(alloc: Global, served: Served, written: &[u8]) -> Result<bool, AllocError> {
     match served {
         Served::Nothing => Ok(written.is_empty()),
@@ -43,8 +43,8 @@ pub fn reply_to<K: Keeper>(
     }
 }
 
-/// `request MOST MOMENT BYTES [OLD NEW]..`: the reply to a request that comes at most so many bytes a read. Each OLD of the bytes is
-/// replaced by its NEW.
+/// `request MOST MOMENT BYTES [OLD NEW]..`: the reply to a request that comes at most MOST bytes in one read. Each OLD of the bytes
+/// is replaced by its NEW.
 pub fn request<K: Keeper>(
     alloc: Global,
     archive: &mut Archive<K>,
@@ -63,7 +63,7 @@ pub fn request<K: Keeper>(
     reply_to(alloc, archive, &mut reader, number_of(moment)?)
 }
 
-/// `left MOST MOMENT BYTES`: the status of the reply to a request that comes so, and how many bytes behind it are left unread.
+/// `left MOST MOMENT BYTES`: the status of the reply to such a request, and the number of bytes after it that are left unread.
 pub fn left<K: Keeper>(
     alloc: Global,
     archive: &mut Archive<K>,

@@ -32,7 +32,7 @@ pub fn run<K: Keeper>(
     report_text(alloc, archive.run(alloc, number_of(moment)?))
 }
 
-/// The moment of a list: 0, where none is given.
+/// The moment of a list: 0 if none is given.
 pub fn moment_of(words: &[Vec<u8>]) -> Result<u64, Unread> {
     match words {
         [] => Ok(0),
@@ -70,7 +70,7 @@ pub fn path_of(words: &[Vec<u8>]) -> Result<&str, Unread> {
     }
 }
 
-/// `show PATH`: the bytes that stand there, or `nothing`.
+/// `show PATH`: the bytes at the path, or `nothing`.
 pub fn show<K: Keeper>(
     alloc: Global,
     archive: &mut Archive<K>,
@@ -79,7 +79,7 @@ pub fn show<K: Keeper>(
     found_text(alloc, archive.fetch(alloc, path_of(words)?))
 }
 
-/// `has PATH`: whether anything stands there.
+/// `has PATH`: whether anything is at the path.
 pub fn has<K: Keeper>(
     alloc: Global,
     archive: &mut Archive<K>,
@@ -92,7 +92,7 @@ pub fn has<K: Keeper>(
     }
 }
 
-/// `copy FROM TO SOURCE MOMENT`: how many items are new, or the fault.
+/// `copy FROM TO SOURCE MOMENT`: the number of new items, or the fault.
 pub fn copy<K: Keeper>(
     alloc: Global,
     archive: &mut Archive<K>,
@@ -130,7 +130,8 @@ pub fn sources_of(alloc: Global, words: &[Vec<u8>]) -> Result<Option<Vec<String>
     }
 }
 
-/// `promote FROM TO MOMENT [SOURCE..]`: for each source how many items are new, or that it is refused; or the fault.
+/// `promote FROM TO MOMENT [SOURCE..]`: for each source the number of new items, or that it is refused; or the
+/// fault.
 pub fn promote<K: Keeper>(
     alloc: Global,
     archive: &mut Archive<K>,
@@ -144,7 +145,7 @@ pub fn promote<K: Keeper>(
     promotion_text(alloc, archive.promote(alloc, from, to, &sources, moment))
 }
 
-/// `remove SUITE NAME MOMENT`: how many items of the package the suite showed, or the fault.
+/// `remove SUITE NAME MOMENT`: the number of items of the package that the suite showed, or the fault.
 pub fn remove<K: Keeper>(
     alloc: Global,
     archive: &mut Archive<K>,
@@ -160,7 +161,7 @@ pub fn remove<K: Keeper>(
     )
 }
 
-/// `clean MOMENT`: how many arrivals it took away, or the fault.
+/// `clean MOMENT`: the number of arrivals that it took away, or the fault.
 pub fn clean<K: Keeper>(
     alloc: Global,
     archive: &mut Archive<K>,

@@ -1,4 +1,4 @@
-//! What is done with an archive, over any keeper, and all that it shows.
+//! What is done with an archive, over any keeper, and everything that it shows.
 
 use crate::named::paths_in;
 use crate::refusals::is_refusal;
@@ -10,34 +10,36 @@ use std::alloc::{AllocError, Global};
 use std::slice::from_ref;
 use test_rows::{Unread, text_of};
 
-/// What was told, piece by piece.
+/// What an archive showed and answered, piece by piece.
 pub type Pieces = Vec<Vec<u8>>;
 
 /// A question to an archive.
 #[derive(Clone, Copy)]
 pub struct Question<'a> {
-    /// Its words; none where nothing is asked.
+    /// The words of the question; there are none if nothing is asked.
     pub words: &'a [Vec<u8>],
-    /// The paths at which the archive shows all.
+    /// The paths of everything that the archive shows.
     pub paths: &'a [Vec<u8>],
-    /// The right answer, where it is known.
+    /// The right answer, if it is known.
     pub right: &'a [Vec<u8>],
 }
 
 /// What is done with an archive.
 #[derive(Clone, Copy)]
 pub enum Task<'a> {
-    /// Nothing: it is made or opened alone.
+    /// Nothing: the archive is only made or opened.
     Nothing,
-    /// Asks the question. Where it is refused, the archive tells as below, and the answer of the question comes last.
+    /// Asks the question. If it is refused, the archive first shows what `Tell` shows, and the answer to the question
+    /// comes last.
     Ask(Question<'a>),
-    /// Tells what the archive shows; where there is a question, what it answers and what it shows then, too.
+    /// Gives what the archive shows. If there is a question, it also gives the answer and what the archive then
+    /// shows.
     Tell(Question<'a>),
     /// The paths of all indices, and of all files of the pool that they name.
     Paths,
 }
 
-/// What an archive answers to a question; nothing where there is none.
+/// The answer of an archive to a question; it is empty if there is no question.
 fn answered<K: Keeper>(
     alloc: Global,
     archive: &mut Archive<K>,
@@ -49,7 +51,7 @@ fn answered<K: Keeper>(
     }
 }
 
-/// A piece of what is shown: its name and what stands there.
+/// A piece of what is shown: its name and the bytes at it.
 fn piece(alloc: Global, name: &[u8], bytes: &[u8]) -> Result<Vec<u8>, AllocError> {
     [name, b":\n".as_slice(), bytes, b"\n".as_slice()].concat(alloc)
 }
@@ -68,7 +70,7 @@ fn add_piece<K: Keeper>(
     Ok(())
 }
 
-/// Adds all that an archive shows: its configuration, the lists, and what stands at these paths.
+/// Adds everything that an archive shows: its configuration, the lists, and what is at these paths.
 fn observe<K: Keeper>(
     alloc: Global,
     archive: &mut Archive<K>,
@@ -96,7 +98,7 @@ fn observe<K: Keeper>(
     Ok(())
 }
 
-/// What an archive tells, as `Task::Tell` says.
+/// What an archive shows and answers, as `Task::Tell` says.
 fn told<K: Keeper>(
     alloc: Global,
     archive: &mut Archive<K>,
@@ -128,7 +130,7 @@ fn tried<K: Keeper>(
     Ok(pieces)
 }
 
-/// Adds the paths that are not there yet.
+/// Adds the paths that are not in the list yet.
 pub fn add_paths(alloc: Global, more: &[Vec<u8>], paths: &mut Pieces) -> Result<(), AllocError> {
     for path in more {
         if !paths.contains(path) {
@@ -164,7 +166,7 @@ fn releases(alloc: Global, config: &Config) -> Result<Pieces, AllocError> {
     Ok(paths)
 }
 
-/// The paths of all indices, each behind its Release file, and then those of the files of the pool.
+/// The paths of all indices, each after its Release file, and then those of the files of the pool.
 fn paths<K: Keeper>(alloc: Global, archive: &mut Archive<K>) -> Result<Pieces, Unread> {
     let releases = releases(alloc, archive.keeper.config())?;
     let mut indices = Vec::new(alloc);
@@ -181,7 +183,7 @@ fn paths<K: Keeper>(alloc: Global, archive: &mut Archive<K>) -> Result<Pieces, U
 }
 
 impl Task<'_> {
-    /// Does it, and answers what is told.
+    /// Does a task, and gives what it answers.
     pub fn perform<K: Keeper>(
         self,
         alloc: Global,

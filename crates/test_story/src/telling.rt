@@ -1,4 +1,4 @@
-//! A story: an archive, and what is asked of it.
+//! A story: an archive, and the questions to it.
 
 use crate::configurations::{configuration, configure};
 use crate::drives::drive;
@@ -20,7 +20,7 @@ use std::alloc::Global;
 use std::marker::PhantomData;
 use test_rows::{Answers, Unread, said, text_of};
 
-/// A story over keepers of one type, and what makes them. The archive is there behind its row.
+/// A story over keepers of one type, and what makes them. The archive is there after the row that makes it.
 #[derive(Drop)]
 pub struct Story<K: Keeper + Drop, M: Makes<K>> {
     archive: Option<Archive<K>>,
@@ -87,7 +87,7 @@ pub fn asked<K: Keeper>(
     }
 }
 
-/// Has an archive over a keeper from here on, and says so; or none, and says why.
+/// Keeps an archive over a keeper from here on, and says so; if there is no keeper, keeps none and says why.
 fn keep<K: Keeper + Drop>(
     alloc: Global,
     archive: &mut Option<Archive<K>>,
@@ -141,7 +141,7 @@ fn reopen<K: Keeper + Drop, M: Makes<K>>(
     }
 }
 
-/// What the archive answers, which is there.
+/// The answer of the archive, which has to be there.
 fn ask<K: Keeper + Drop, M: Makes<K>>(
     alloc: Global,
     archive: &mut Option<Archive<K>>,
@@ -183,17 +183,17 @@ impl<K: Keeper + Drop, M: Makes<K>> Story<K, M> {
         }
     }
 
-    /// Takes the archive out that is there, if any.
+    /// Takes out the archive, if there is one.
     pub fn take(&mut self) -> Option<Archive<K>> {
         self.archive.take()
     }
 
-    /// Has this archive from here on.
+    /// Keeps this archive from here on.
     pub fn put(&mut self, archive: Archive<K>) {
         self.archive = Some(archive);
     }
 
-    /// What is answered to the words of a row.
+    /// The answer to the words of a row.
     pub fn answered(&mut self, alloc: Global, words: &[Vec<u8>]) -> Result<Vec<u8>, Unread> {
         match words {
             [verb, words @ ..] => tell::<K, M>(alloc, &mut self.archive, text_of(verb)?, words),

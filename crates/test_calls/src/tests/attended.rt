@@ -11,7 +11,7 @@ use std::test::Fail;
 /// A request, and the whole reply to it.
 type Row = (&'static [u8], &'static [u8]);
 
-/// Two suites, of which the second keeps no sources.
+/// Two suites. The second keeps no sources.
 const PAIR: &[u8] =
     b"Codename: box\nArchitectures: amd64 source\nComponents: main\n\nCodename: lab\nArchitectures: amd64\nComponents: main\n";
 
@@ -22,8 +22,8 @@ const MOMENT: u64 = 1_467_436_850;
 const CREATED: &[u8] =
     b"HTTP/1.1 201 Created\r\nContent-Type: text/plain; charset=utf-8\r\nContent-Length: 4\r\nConnection: close\r\n\r\nnew\n";
 
-/// An upload of three files from its delivery to a copy of its package, and a connection that brings nothing. The digests are those that
-/// Python's hashlib gave.
+/// An upload of three files from its delivery to a copy of its package, and a connection without a byte. The digests were made with
+/// Python's hashlib.
 const ROWS: [Row; 13] = [
     (
         b"PUT /incoming/hello_1.0-1_amd64.changes HTTP/1.1\r\nContent-Length: 709\r\n\r\nFormat: 1.8\nDate: Sat, 02 Jul 2016 05:00:00 +0000\nSource: hello\nVersion: 1.0-1\nArchitecture: amd64\nDistribution: box\nMaintainer: Ann <ann@example.org>\nChanges:\n hello (1.0-1) box; urgency=low\nChecksums-Sha1:\n a9993e364706816aba3e25717850c26c9cd0d89d 3 hello_1.0-1_amd64.deb\n baa4e058fbc3cff6d3779abd4dd824488291bd98 104 hello_1.0-1_amd64.control\nChecksums-Sha256:\n ba7816bf8f01cfea414140de5dae2223b00361a396177a9cb410ff61f20015ad 3 hello_1.0-1_amd64.deb\n 577afbfebf762b1e54ff30186e0476751c272a4cc8d9aa441b59eb118ad06b85 104 hello_1.0-1_amd64.control\nFiles:\n 900150983cd24fb0d6963f7d28e17f72 3 utils optional hello_1.0-1_amd64.deb\n 4ee3c5e6649092348b7f34d1cb6296c0 104 utils optional hello_1.0-1_amd64.control\n",

@@ -1,5 +1,5 @@
-//! What the tests share: a check in a call of its own, since a test in whose body it stands takes the prover far longer, and a
-//! configuration.
+//! What the tests share: a configuration, and a check in a call of its own, since a test that has the check in its own body
+//! takes the prover far longer.
 
 use rules::Config;
 use std::alloc::Global;
@@ -10,7 +10,7 @@ use std::test::Fail;
 /// A suite, which keeps sources.
 pub const BOX: &[u8] = b"Codename: box\nArchitectures: amd64 source\nComponents: main\n";
 
-/// The configuration that a text is. One that is known where it is read takes the prover far longer.
+/// The configuration of a text. If the text is known where it is read, the prover takes far longer.
 pub fn config_of(alloc: Global, text: &[u8]) -> Result<Config, Fail> {
     Ok(Config::read(alloc, text)?)
 }

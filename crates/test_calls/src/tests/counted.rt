@@ -22,9 +22,9 @@ use sums::Print;
 #[derive(Drop)]
 struct Counting<K: Keeper> {
     inner: K,
-    /// How many texts all changes so far have named.
+    /// The number of texts that all changes so far have named.
     texts: usize,
-    /// How many pieces of bodies have come so far.
+    /// The number of pieces of bodies that have come so far.
     pieces: usize,
 }
 
@@ -133,7 +133,7 @@ impl<K: Keeper> Keeper for Counting<K> {
     ghost settled = { λ k. K.Keeper.settled k.inner };
 }
 
-/// An archive over a keeper, of which texts and pieces are counted.
+/// An archive over a keeper whose texts and pieces are counted.
 fn counted<K: Keeper>(alloc: Global, inner: K) -> Archive<Counting<K>> {
     let counting = Counting {
         inner,
@@ -156,7 +156,7 @@ fn expect_lines(rt: &impl Abort, report: &Report, wanted: &[&str]) {
     }
 }
 
-/// Delivers files, runs the queue, and checks what that reports, and how many texts all changes so far have named.
+/// Delivers files, runs the queue, and checks its report and the number of texts that all changes so far have named.
 fn expect_run<K: Keeper>(
     rt: &impl Abort,
     alloc: Global,
@@ -175,8 +175,8 @@ fn expect_run<K: Keeper>(
     Ok(())
 }
 
-/// Checks that a run of no upload names no text, and none that admits a version equal to the one that is shown. Others name two texts,
-/// those of Packages and Release.
+/// Checks that a run names no text if there is no upload, or if it admits a version equal to the one that is shown. Other runs name
+/// two texts, those of Packages and Release.
 fn expect_runs<K: Keeper>(
     rt: &impl Abort,
     alloc: Global,
@@ -199,7 +199,7 @@ fn a_run_that_changes_nothing_names_no_text(rt: HostRuntime) -> Result<(), Fail>
     expect_in_memory(&rt, alloc, Subject::Counts(Counts::Texts))
 }
 
-/// Bytes behind which the reader fails.
+/// Bytes after which the reader fails.
 #[derive(Drop)]
 struct Failing<'a> {
     bytes: &'a [u8],
@@ -217,7 +217,7 @@ impl Read for Failing<'_> {
     }
 }
 
-/// How much comes of a body of 200,000 bytes: two pieces of 65,536.
+/// The number of bytes that come of a body of 200,000 bytes: two pieces of 65,536.
 const COMES: usize = 131_072;
 
 /// The head of the delivery of such a body.
@@ -228,7 +228,7 @@ fn front_of_body(alloc: Global) -> Result<Vec<u8>, AllocError> {
     vec![in alloc; b'x'; COMES]
 }
 
-/// Checks that two pieces have come behind so many, and that nothing has arrived: the same bytes are a body of their own then.
+/// Checks that two more pieces have come, and that nothing has arrived: these bytes are then delivered as a body of their own.
 fn expect_two_pieces<K: Keeper>(
     rt: &impl Abort,
     alloc: Global,
@@ -243,7 +243,7 @@ fn expect_two_pieces<K: Keeper>(
     same(rt, &archive.keeper.pieces, &before.saturating_add(4));
 }
 
-/// Checks what comes of a delivery whose reader fails behind two pieces.
+/// Checks a delivery whose reader fails after two pieces.
 fn expect_cut<K: Keeper>(
     rt: &impl Abort,
     alloc: Global,
@@ -260,7 +260,7 @@ fn expect_cut<K: Keeper>(
     Ok(())
 }
 
-/// Checks that a request whose reader fails behind two pieces of its body is told as H1, and that nothing is written.
+/// Checks that a request whose reader fails after two pieces of its body is answered with the fault H1, and that nothing is written.
 fn expect_failed<K: Keeper>(
     rt: &impl Abort,
     alloc: Global,
@@ -274,7 +274,7 @@ fn expect_failed<K: Keeper>(
     same(rt, &writer.len(), &0);
 }
 
-/// Checks what comes of the same by a request.
+/// Checks a delivery by a request whose reader fails after two pieces.
 fn expect_cut_request<K: Keeper>(
     rt: &impl Abort,
     alloc: Global,
@@ -289,7 +289,7 @@ fn expect_cut_request<K: Keeper>(
     Ok(())
 }
 
-/// Checks both over one archive.
+/// Checks both deliveries over one archive, that by a call and that by a request.
 fn expect_pieces<K: Keeper>(
     rt: &impl Abort,
     alloc: Global,
@@ -306,7 +306,7 @@ pub enum Counts {
     Pieces,
 }
 
-/// Checks one of both over an archive.
+/// Checks the texts or the pieces over an archive.
 fn expect_counts<K: Keeper>(
     rt: &impl Abort,
     alloc: Global,
@@ -319,7 +319,7 @@ fn expect_counts<K: Keeper>(
     }
 }
 
-/// Checks it over the tables of a database that has none.
+/// Checks the texts or the pieces over the tables of a database that has none yet.
 pub fn expect_counts_over_tables<S: InOrder + Drop>(
     rt: &impl Abort,
     alloc: Global,

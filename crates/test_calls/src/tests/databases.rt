@@ -1,4 +1,5 @@
-//! Checks over a database in memory. One function names its store, since each that does takes the prover long.
+//! Checks over a database in memory. Only one function names its store, since each function that does so takes
+//! the prover long.
 
 use super::counted::{Counts, expect_counts_over_tables};
 use super::promised::expect_created;
@@ -12,15 +13,15 @@ use std::test::Fail;
 /// What is checked over a database that has no tables.
 #[derive(Clone, Copy)]
 pub enum Subject {
-    /// How many texts or pieces a keeper is handed.
+    /// The number of texts or pieces that a keeper is handed.
     Counts(Counts),
-    /// What commands answer.
+    /// The answers to commands.
     Commands,
-    /// How many steps a look for uploads takes.
+    /// The number of steps that a search for uploads takes.
     Uploads,
 }
 
-/// Checks it over any store.
+/// Makes the check over any store.
 fn expect_over<S: InOrder + Drop>(
     rt: &impl Abort,
     alloc: Global,
@@ -34,7 +35,7 @@ fn expect_over<S: InOrder + Drop>(
     }
 }
 
-/// Checks it over a database in memory.
+/// Makes the check over a database in memory.
 pub fn expect_in_memory(rt: &impl Abort, alloc: Global, subject: Subject) -> Result<(), Fail> {
     expect_over(rt, alloc, subject, Connection::open_in_memory(alloc)?)
 }

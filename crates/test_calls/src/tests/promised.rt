@@ -27,7 +27,7 @@ fn commands(alloc: Global) -> Result<Vec<Command>, AllocError> {
     Ok(commands)
 }
 
-/// What the delivery answered, where there is an outcome of both commands, and none is a fault.
+/// The answer to the delivery, if both commands have an outcome, and neither is a fault.
 fn delivered(outcomes: &[Outcome]) -> Option<Arrived> {
     match outcomes {
         [Outcome::Deliver(Ok(arrived)), Outcome::Verdicts(Ok(_))] => Some(*arrived),
@@ -42,11 +42,11 @@ fn expect_anew(rt: &impl Abort, alloc: Global, commands: &[Command]) -> Result<(
     Ok(())
 }
 
-/// The same suite, which keeps one more architecture.
+/// The suite box, which keeps one more architecture.
 const BOX_WITH_ARM64: &[u8] =
     b"Codename: box\nArchitectures: amd64 arm64 source\nComponents: main\n";
 
-/// Makes the commands behind another configuration of the archive that a database keeps, where the file has arrived.
+/// Makes the commands after another configuration of the archive that a database keeps, in which the file has arrived.
 fn expect_configured<S: InOrder + Drop>(
     rt: &impl Abort,
     alloc: Global,
@@ -63,7 +63,7 @@ fn expect_configured<S: InOrder + Drop>(
     Ok(())
 }
 
-/// Makes the commands over the archive that a database keeps, where the file has arrived, and then once more behind another
+/// Makes the commands over the archive that a database keeps, in which the file has arrived, and then once more after another
 /// configuration.
 fn expect_opened<S: InOrder + Drop>(
     rt: &impl Abort,
@@ -78,7 +78,7 @@ fn expect_opened<S: InOrder + Drop>(
     expect_configured(rt, alloc, archive.into_keeper().into_connection(), commands)
 }
 
-/// Makes the commands over an archive in a database without tables, and then once more over what that keeps.
+/// Makes the commands over an archive in a database without tables, and then once more over the archive that the database keeps.
 pub fn expect_created<S: InOrder + Drop>(
     rt: &impl Abort,
     alloc: Global,
@@ -97,7 +97,7 @@ pub fn expect_created<S: InOrder + Drop>(
     )
 }
 
-/// The same commands have the same outcomes in memory and in a database, and behind them nothing is new, also under another
+/// These commands have the same outcomes in memory and in a database. When they are repeated nothing is new, also under another
 /// configuration.
 #[test]
 fn commands_follow_the_making_and_the_opening(rt: HostRuntime) -> Result<(), Fail> {

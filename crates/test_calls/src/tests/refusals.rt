@@ -11,27 +11,28 @@ use test_failing::DiskKeeper;
 /// The name of a file, and the answer to its delivery.
 type Row = (&'static str, Result<Arrived, Fault>);
 
-/// Over a disk that works: behind a refusal of its own the archive answers as if it had not been asked.
+/// Over a disk that works: after a refusal of its own the archive answers as if it had not been asked.
 const OPEN: [Row; 3] = [
     (".hid", Err(Fault::BadName)),
     ("a.deb", Ok(Arrived::New)),
     ("a.deb", Ok(Arrived::Again)),
 ];
 
-/// Over a disk that fails: behind a delivery that failed each other has the same answer.
+/// Over a disk that fails: after a delivery that failed every other delivery has this answer.
 const SHUT: [Row; 3] = [
     (".hid", Err(Fault::BadName)),
     ("a.deb", Err(Fault::Keeper(KeepFault::Disk))),
     ("b.deb", Err(Fault::Keeper(KeepFault::Disk))),
 ];
 
-/// An archive over a disk that works or fails. Its keeper takes deliveries, and finds no memory for all else.
+/// An archive over a disk that works or fails. Its keeper takes deliveries, and refuses all else for want of
+/// memory.
 fn archive_on(alloc: Global, fails: bool) -> Result<Archive<DiskKeeper>, Fail> {
     let config = config_of(alloc, BOX)?;
     Ok(Archive::new(alloc, DiskKeeper::new(alloc, config, 0, fails)?))
 }
 
-/// Checks the answers to deliveries of three bytes, and that a run behind each finds no memory.
+/// Checks the answers to deliveries of three bytes, and that a run after each finds no memory.
 fn expect_rows<K: Keeper>(rt: &impl Abort, alloc: Global, archive: &mut Archive<K>, rows: &[Row]) {
     for row in rows {
         same(rt, &archive.deliver(alloc, row.0, b"abc", 0), &row.1);

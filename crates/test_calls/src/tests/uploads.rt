@@ -1,4 +1,4 @@
-//! Uploads to hand to an archive. The digests are those that Python's hashlib gave.
+//! Uploads to hand to an archive. The digests were made with Python's hashlib.
 
 /// The moment of the first run, 2016-07-02 05:20:50 UTC.
 pub const MOMENT: u64 = 1_467_436_850;

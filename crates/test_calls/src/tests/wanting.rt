@@ -1,4 +1,4 @@
-//! The uploads that want something are found without a look at those that were judged.
+//! The uploads that want something are found without reading those that were judged.
 
 use super::checks::same;
 use super::databases::{Subject, expect_in_memory};
@@ -38,7 +38,7 @@ fn fill<S: Alter>(tx: &mut Transaction<'_, S>) -> Result<(), Error> {
     add_waiting(tx, "c.changes")
 }
 
-/// The same in a transaction of its own.
+/// Makes the tables and the uploads in a transaction of their own.
 fn filled<S: Alter>(conn: &mut Connection<S>) -> Result<(), Error> {
     if !conn.is_autocommit() {
         return Ok(());
@@ -48,7 +48,7 @@ fn filled<S: Alter>(conn: &mut Connection<S>) -> Result<(), Error> {
     tx.commit()
 }
 
-/// The number of the first upload behind a number that wants something, and whether that upload is there.
+/// The number of the first upload after a number that wants something, and whether there is such an upload.
 fn next_upload<S: Alter>(
     alloc: Global,
     conn: &mut Connection<S>,
@@ -60,7 +60,8 @@ fn next_upload<S: Alter>(
     Ok(Some((id, upload_numbered(alloc, conn, id)?.is_some())))
 }
 
-/// Checks that ten steps, of which a scan takes one for each row, are enough for each of these uploads, and not for a scan.
+/// Checks that ten steps are enough to find each of these uploads, and not enough for a scan, which takes a step for each
+/// row.
 pub fn expect_few_steps<S: Alter + Drop>(
     rt: &impl Abort,
     alloc: Global,
@@ -89,7 +90,7 @@ pub fn expect_few_steps<S: Alter + Drop>(
     Ok(())
 }
 
-/// Ten steps, of which a scan takes one for each row, are enough among 300 uploads.
+/// Ten steps are enough among 300 uploads. A scan takes a step for each row.
 #[test]
 fn judged_uploads_are_not_read(rt: HostRuntime) -> Result<(), Fail> {
     expect_in_memory(&rt, rt.alloc(), Subject::Uploads)

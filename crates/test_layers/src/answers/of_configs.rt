@@ -15,7 +15,7 @@ fn config(out: &mut Out, words: &[Vec<u8>]) {
     }
 }
 
-/// The configuration that a text is.
+/// The configuration of a text.
 pub fn config_of(out: &mut Out, text: &[u8]) -> Option<Config> {
     match Config::read(out.alloc, text) {
         Ok(config) => Some(config),
@@ -87,7 +87,7 @@ fn suite_for(out: &mut Out, words: &[Vec<u8>]) {
     }
 }
 
-/// Adds what is asked of a suite.
+/// Adds the answer to a question on a suite.
 fn add_asked(out: &mut Out, suite: &Suite, question: &str, name: &str, more: &str) {
     match question {
         "architecture" => out.yes_or_no(suite.keeps_architecture(name)),
@@ -154,7 +154,7 @@ fn judged(out: &mut Out, words: &[Vec<u8>]) {
     }
 }
 
-/// Answers a question on configurations. It says whether it is one.
+/// Answers a question on configurations, and says whether the words are such a question.
 pub fn answer(out: &mut Out, verb: &str, words: &[Vec<u8>]) -> bool {
     match verb {
         "config" => config(out, words),

@@ -145,7 +145,7 @@ fn numbers(out: &mut Out, words: &[Vec<u8>]) {
     }
 }
 
-/// Answers a question on faults. It says whether it is one.
+/// Answers a question on faults, and says whether the words are such a question.
 pub fn answer(out: &mut Out, verb: &str, words: &[Vec<u8>]) -> bool {
     if verb != "numbers" {
         return false;

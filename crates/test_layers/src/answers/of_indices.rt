@@ -27,7 +27,7 @@ fn moment_of(word: &Vec<u8>) -> Result<u64, Unread>
     Ok(moment)
 }
 
-/// `date MOMENT`: as it stands in a Release.
+/// `date MOMENT`: the date as a Release has it.
 fn date(out: &mut Out, words: &[Vec<u8>]) {
     let [moment] = words else {
         return out.refuse(Unread::BadWords);
@@ -42,7 +42,7 @@ fn date(out: &mut Out, words: &[Vec<u8>]) {
     }
 }
 
-/// The moments that words are.
+/// The moments of these words.
 fn moments_of(alloc: Global, words: &[Vec<u8>]) -> Result<Vec<u64>, Unread>
     ensures { IfOk result (λ moments. All (λ moment. moment ≤ 4_102_444_799) moments.items) }
 {
@@ -53,7 +53,7 @@ fn moments_of(alloc: Global, words: &[Vec<u8>]) -> Result<Vec<u64>, Unread>
     Ok(moments)
 }
 
-/// Adds the text at a path where no suite shows anything, with the date of each; or `none`.
+/// Adds the text at a path if no suite shows anything, with the date of each suite; or `none`.
 fn add_index(out: &mut Out, config: &Config, path: &str, dates: &[Vec<u8>]) {
     match index_at(out.alloc, config, path, dates) {
         Ok(Some(text)) => out.add(&text),
@@ -73,7 +73,8 @@ fn index_at(
     Ok(index_text(alloc, config, &Shelves::new(alloc), &dates, path)?)
 }
 
-/// `index CONFIG PATH DATE..`: the text at a path where no suite shows anything, with the date of each; or `none`.
+/// `index CONFIG PATH DATE..`: the text at a path if no suite shows anything, with the date of each suite; or
+/// `none`.
 fn index(out: &mut Out, words: &[Vec<u8>]) {
     let [config, path, dates @ ..] = words else {
         return out.refuse(Unread::BadWords);
@@ -84,7 +85,7 @@ fn index(out: &mut Out, words: &[Vec<u8>]) {
     }
 }
 
-/// Answers a question on indices. It says whether it is one.
+/// Answers a question on indices, and says whether the words are such a question.
 pub fn answer(out: &mut Out, verb: &str, words: &[Vec<u8>]) -> bool {
     match verb {
         "date" => date(out, words),

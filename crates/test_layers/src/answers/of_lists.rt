@@ -29,7 +29,7 @@ fn add_print(out: &mut Out, print: &Print) {
     add_digest(out, &print.sha256);
 }
 
-/// Adds a line on each file: its name, size and digests, and its section and priority.
+/// Adds a line for each file: its name, size and digests, and its section and priority.
 pub fn add_entries(out: &mut Out, entries: &[Entry]) {
     for entry in entries {
         out.say("file ");
@@ -57,7 +57,7 @@ fn print_pieces(out: &mut Out, pieces: &[Vec<u8>]) {
     add_print(out, &printer.finish());
 }
 
-/// `==` compares the sizes and all three digests.
+/// Whether two prints are equal. `==` compares the sizes and all three digests.
 fn is_same(left: &Print, right: &Print) -> bool
     ensures { result ≡ same_print left.now right.now }
 {
@@ -112,7 +112,7 @@ fn lists(out: &mut Out, words: &[Vec<u8>], tells: bool) {
     }
 }
 
-/// Answers a question on lists of files. It says whether it is one.
+/// Answers a question on lists of files, and says whether the words are such a question.
 pub fn answer(out: &mut Out, verb: &str, words: &[Vec<u8>]) -> bool {
     match verb {
         "print" => print(out, words),

@@ -4,7 +4,7 @@ use crate::out::Out;
 use para::{Field, Paragraph, fold, read_many, read_one, simple, write, write_field, write_line};
 use test_rows::Unread;
 
-/// The limit where a row says none.
+/// The limit if a row gives none.
 const LIMIT: usize = 1_048_576;
 
 /// `paragraph LIMIT TEXT`: the paragraph as it is written, or the fault.
@@ -30,7 +30,7 @@ fn add_folded(out: &mut Out, field: &Field<'_>) {
     }
 }
 
-/// Adds what is read of a field: its name and first line, its other lines, its value where it has one line, and its folded
+/// Adds what is read of a field: its name and first line, its other lines, its value if it has one line, and its folded
 /// lines.
 fn add_field(out: &mut Out, field: &Field<'_>) {
     out.quote(field.name, " ");
@@ -40,7 +40,7 @@ fn add_field(out: &mut Out, field: &Field<'_>) {
     add_folded(out, field);
 }
 
-/// Adds a line for each field of a paragraph, and one behind them.
+/// Adds a line for each field of a paragraph, and one after them.
 fn add_fields(out: &mut Out, paragraph: &Paragraph<'_>) {
     for field in paragraph.fields() {
         add_field(out, field);
@@ -48,7 +48,7 @@ fn add_fields(out: &mut Out, paragraph: &Paragraph<'_>) {
     out.say("--\n");
 }
 
-/// `fields TEXT`: a line for each field of each paragraph, and one behind each paragraph; or the fault.
+/// `fields TEXT`: a line for each field of each paragraph, and one after each paragraph; or the fault.
 fn fields(out: &mut Out, words: &[Vec<u8>]) {
     let text = out.only(words);
     match read_many(out.alloc, text, LIMIT) {
@@ -92,7 +92,7 @@ fn add_written(out: &mut Out, name: &str, first: &str, lines: &[Vec<u8>]) {
     out.note(is_had);
 }
 
-/// `write-field FRONT NAME FIRST [LINE]..`: the front, and a field behind it.
+/// `write-field FRONT NAME FIRST [LINE]..`: the front, and a field after it.
 fn field_behind(out: &mut Out, words: &[Vec<u8>]) {
     let [front, name, first, lines @ ..] = words else {
         return out.refuse(Unread::BadWords);
@@ -102,7 +102,7 @@ fn field_behind(out: &mut Out, words: &[Vec<u8>]) {
     add_written(out, name, first, lines);
 }
 
-/// `write-line FRONT LINE`: the front, and a line of a field behind it.
+/// `write-line FRONT LINE`: the front, and a line of a field after it.
 fn line_behind(out: &mut Out, words: &[Vec<u8>]) {
     let [front, line] = words else {
         return out.refuse(Unread::BadWords);
@@ -113,7 +113,7 @@ fn line_behind(out: &mut Out, words: &[Vec<u8>]) {
     out.note(is_had);
 }
 
-/// Answers a question on paragraphs. It says whether it is one.
+/// Answers a question on paragraphs, and says whether the words are such a question.
 pub fn answer(out: &mut Out, verb: &str, words: &[Vec<u8>]) -> bool {
     match verb {
         "paragraph" => paragraph(out, words),

@@ -49,7 +49,7 @@ fn changes(out: &mut Out, words: &[Vec<u8>], tells: bool) {
     }
 }
 
-/// `dsc TEXT [OLD NEW]..`: the same.
+/// `dsc TEXT [OLD NEW]..`: `read`, or the fault; with `told-` before the word, what is read.
 fn dsc(out: &mut Out, words: &[Vec<u8>], tells: bool) {
     let text = out.edited(words);
     let read = Dsc::read(out.alloc, &text);
@@ -58,7 +58,7 @@ fn dsc(out: &mut Out, words: &[Vec<u8>], tells: bool) {
     }
 }
 
-/// `sidecar TEXT [OLD NEW]..`: the same.
+/// `sidecar TEXT [OLD NEW]..`: `read`, or the fault; with `told-` before the word, what is read.
 fn sidecar(out: &mut Out, words: &[Vec<u8>], tells: bool) {
     let text = out.edited(words);
     let read = Sidecar::read(out.alloc, &text);
@@ -67,7 +67,7 @@ fn sidecar(out: &mut Out, words: &[Vec<u8>], tells: bool) {
     }
 }
 
-/// `name TEXT`: whether it is the name of a package, of an architecture and of a suite.
+/// `name TEXT`: whether the text is the name of a package, of an architecture and of a suite.
 fn name(out: &mut Out, words: &[Vec<u8>]) {
     let [text] = words else {
         return out.refuse(Unread::BadWords);
@@ -80,7 +80,7 @@ fn name(out: &mut Out, words: &[Vec<u8>]) {
     out.yes_or_no(is_plain(text));
 }
 
-/// Answers a question on records. It says whether it is one.
+/// Answers a question on records, and says whether the words are such a question.
 pub fn answer(out: &mut Out, verb: &str, words: &[Vec<u8>]) -> bool {
     match verb {
         "changes" => changes(out, words, false),

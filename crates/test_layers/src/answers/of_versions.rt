@@ -18,13 +18,13 @@ fn version(out: &mut Out, words: &[Vec<u8>]) {
     }
 }
 
-/// The versions that two texts are.
+/// The versions of two texts.
 fn both(alloc: Global, left: &str, right: &str) -> Result<(Version, Version), VersionFault> {
     let left = Version::parse(alloc, left)?;
     Ok((left, Version::parse(alloc, right)?))
 }
 
-/// How two versions compare, where they compare so in both directions.
+/// How two versions compare, if both directions agree.
 fn compared(left: &Version, right: &Version) -> &'static str {
     match (left.order(right), right.order(left)) {
         (Ordering::Less, Ordering::Greater) => "less",
@@ -54,7 +54,7 @@ fn is_before(alloc: Global, left: &str, right: &str) -> bool {
     }
 }
 
-/// Adds a line where a version does not come before each of those behind it.
+/// Adds a line if a version does not come before each of those after it.
 fn note_not_before(out: &mut Out, first: &str, behind: &[Vec<u8>]) {
     for word in behind {
         let other = out.text_of(word);
@@ -67,7 +67,7 @@ fn note_not_before(out: &mut Out, first: &str, behind: &[Vec<u8>]) {
     }
 }
 
-/// `rising VERSION..`: each pair that does not rise, which is nothing.
+/// `rising VERSION..`: each pair that does not rise; there is none.
 fn rising(out: &mut Out, words: &[Vec<u8>]) {
     for (place, word) in words.iter().enumerate() {
         let first = out.text_of(word);
@@ -93,7 +93,8 @@ fn equals_reading(alloc: Global, version: &Version) -> bool {
     }
 }
 
-/// Adds the text of a version, the text without its epoch, and whether a copy, and what is read of its text, equal it.
+/// Adds the text of a version, the text without its epoch, and whether a copy and a second reading of its text equal
+/// it.
 fn add_version(out: &mut Out, version: &Version) {
     let is_same = equals_copy(version) & equals_reading(out.alloc, version);
     out.say(version.text());
@@ -126,7 +127,7 @@ fn same(out: &mut Out, words: &[Vec<u8>]) {
     }
 }
 
-/// Answers a question on versions. It says whether it is one.
+/// Answers a question on versions, and says whether the words are such a question.
 pub fn answer(out: &mut Out, verb: &str, words: &[Vec<u8>]) -> bool {
     match verb {
         "version" => version(out, words),

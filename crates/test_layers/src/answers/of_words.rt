@@ -52,7 +52,7 @@ fn batch(out: &mut Out, words: &[Vec<u8>]) {
     }
 }
 
-/// Answers a question on a command line or on a list of commands. It says whether it is one.
+/// Answers a question on a command line or on a list of commands, and says whether the words are such a question.
 pub fn answer(out: &mut Out, verb: &str, words: &[Vec<u8>]) -> bool {
     match verb {
         "words" => words_of(out, words),
