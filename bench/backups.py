@@ -69,7 +69,7 @@ def files_in(folder, numbers):
 
 
 def made(line, count):
-    """An archive of so many files, in a folder of its own."""
+    """An archive of `count` files, in a folder of its own."""
     folder = f"{line.folder}/{count}"
     os.makedirs(f"{folder}/copies")
     way = ways.Lines(line.archive, folder)
@@ -93,7 +93,7 @@ def backed_up(line, way, server, *words):
 
 
 def waited(server, seconds):
-    """The longest that a client waits in so many seconds without a backup."""
+    """The longest that a client waits in `seconds` seconds without a backup."""
     with Client(server) as client:
         time.sleep(seconds)
     return client.longest

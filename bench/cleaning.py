@@ -52,17 +52,17 @@ def made(line, folder, first, others):
 
 
 def cleaned(way, count):
-    """A cleaning by a command line, which takes so many files."""
+    """Cleans by a command line, and takes this number of files."""
     taken, printed = measure.line([way.program, "clean", "--db", way.db, "--at", "86400"])
     ways.check(int(printed), count)
     return taken
 
 
 def served(line, way, count):
-    """Two cleanings over an archive that is open: of so many files, and of none."""
+    """Cleans twice over an archive that is open: first this number of files, then none."""
     words = [line.archive, "serve", "--db", way.db, "--at", "86400", "127.0.0.1:{port}", "1000000"]
     with measure.Server(words) as server:
-        # a connection comes about before the archive is open, and is answered behind that
+        # a connection comes about before the archive is open, and is answered after that
         ways.check(server.ask("GET", "verdicts"), (200, b""))
         for wanted in count, 0:
             with server.taking() as taken:

@@ -42,7 +42,7 @@ def least(rounds):
 
 
 def of_archive(line, count, folder):
-    """What is done with an archive of so many packages, and what it takes."""
+    """What is done with an archive of this number of packages, and what it takes."""
     given = uploads.make(f"{folder}/first", count)
     more = uploads.make(f"{folder}/more", line.rounds, first=count)
     way = ways.Lines(line.archive, folder)

@@ -26,7 +26,7 @@ def milliseconds(server, path, body):
 
 
 def releases(server, count):
-    """The time that passes in so many GETs of a Release."""
+    """The time of this number of GETs of a Release."""
     with server.taking() as taken:
         for _ in range(count):
             ways.check(server.ask("GET", "dists/box/Release")[0], 200)

@@ -83,7 +83,8 @@ def started(words, folder, out):
     """A command line that is started by a shell that ends, so that it is a child of this process then: its number. It begins
     its work with the `with`, so that it does not end before the shell.
 
-    The most memory that Linux tells of a process is no less than what its parent had at its start, and a shell has little."""
+    The most memory that Linux reports for a process is no less than what its parent had at its start, and a shell has
+    little."""
     process = ctypes.CDLL(None)
     held, let_go = os.pipe()
     process.prctl(PR_SET_CHILD_SUBREAPER, 1, 0, 0, 0)

@@ -69,12 +69,12 @@ class Rows:
         return number
 
     def judge(self, name, body):
-        """Tells a .changes as accepted."""
+        """Records a .changes as accepted."""
         self.judged += 1
         self.add("uploads", None, name, *print_of(body), self.judged, ACCEPTED)
 
     def wait(self, name, body, listed):
-        """Tells a .changes as one that waits for these files, each a body by its name and whether it has arrived."""
+        """Records a .changes as one that waits for these files, each a body by its name and whether it has arrived."""
         upload = self.add("uploads", None, name, *print_of(body), None, None)
         for wanted, contents, is_here in listed:
             self.add("wants", upload, wanted, *print_of(contents), int(is_here))
@@ -91,7 +91,7 @@ class Rows:
         self.texts[name] = paragraph + told.encode()
 
     def finish(self):
-        """Tells in the indices of `box` what it shows."""
+        """Writes into the indices of `box` what it shows."""
         [release] = self.held.execute("SELECT body FROM texts WHERE path = ?", (RELEASE,)).fetchone()
         packages = b"".join(text for _, text in sorted(self.texts.items()))
         for digest in DIGESTS:
@@ -111,7 +111,7 @@ def opened(file):
 
 
 def large_bodies(rows, count):
-    """So many large bodies, each delivered."""
+    """Adds this number of large bodies, each delivered."""
     for number in range(count):
         name = f"file{number}_1.0-1_amd64.deb"
         rows.deliver(name, hashlib.shake_128(name.encode()).digest(LARGE_SIZE))
@@ -128,13 +128,13 @@ def upload(rows, package, is_there=True, is_last=True):
 
 
 def judged(rows, count):
-    """So many uploads that have a verdict, each shown."""
+    """Adds this number of uploads that have a verdict, each shown."""
     for number in range(count):
         upload(rows, uploads.Package(uploads.name_of(number)))
 
 
 def years(rows, count):
-    """So many uploads that have a verdict, as some years leave them."""
+    """Adds this number of uploads that have a verdict, as some years leave them."""
     packages = -(-count // VERSIONS)
     for number in range(count):
         version, package = divmod(number, packages)
@@ -143,7 +143,7 @@ def years(rows, count):
 
 
 def waiting(rows, count):
-    """So many uploads that wait for their sidecar."""
+    """Adds this number of uploads that wait for their sidecar."""
     for number in range(count):
         files = uploads.upload_of(uploads.Package(uploads.name_of(number)))
         deb, control, changes = files
@@ -153,13 +153,13 @@ def waiting(rows, count):
 
 
 def large(rows, count):
-    """The same, and large bodies beside."""
+    """Adds what `years` adds, and large bodies too."""
     years(rows, count)
     large_bodies(rows, LARGE_COUNT)
 
 
 def made(line, fill, count):
-    """Makes an archive whose rows are filled in so, with so many bodies or uploads. Answers its file."""
+    """Makes an archive whose rows `fill` adds, for this number of bodies or uploads. Answers its file."""
     file = f"{line.folder}/{fill.__name__}.db"
     measure.line([line.archive, "init", "--db", file, "--at", "0", f"{line.folder}/box.conf"])
     with opened(file) as held:
@@ -181,14 +181,14 @@ def told(file):
 
 
 def opening(line, file, verdicts):
-    """What an opening takes, where so many verdicts are listed."""
+    """What an opening takes, if this number of verdicts is listed."""
     taken, printed = measure.line([line.archive, "verdicts", "--db", file])
     ways.check(printed.count(b"accepted "), verdicts)
     return taken
 
 
 def library(line, file):
-    """What an opening takes up to where the program sees that the file has a table more."""
+    """What an opening takes until the program sees that the file has an extra table."""
     taken, printed = measure.line([line.archive, "verdicts", "--db", file], status=1)
     ways.check(printed, b"archive: K4\n")
     return taken
@@ -200,7 +200,7 @@ def least(line, one):
 
 
 def row(line, file):
-    """What an archive holds, and what each column tells of it."""
+    """What an archive holds, and the values of each column for it."""
     what, verdicts = told(file)
     ours = least(line, lambda: opening(line, file, verdicts))
     with opened(file) as held:

@@ -21,7 +21,7 @@ PACKAGES = "dists/box/main/binary-amd64/Packages"
 
 
 def shown(program, folder, count, description):
-    """An archive by HTTP that shows so many packages."""
+    """An archive by HTTP that shows this number of packages."""
     os.mkdir(folder)
     lines = ways.Lines(program, folder)
     given = uploads.make(f"{folder}/first", count, description=description)
@@ -53,7 +53,7 @@ def packages_bytes(way):
 
 
 def by_byte(line, count, short, more):
-    """What a byte more of Packages takes in a run of one upload, in ns of processor time, beside such a run and so many bytes."""
+    """What a byte more of Packages takes in a run of one upload, in ns of processor time, beside such a run and this number of bytes."""
     run, size = short
     way = shown(line.archive, f"{line.folder}/long-{count}", count, line.description)
     try:
@@ -64,7 +64,7 @@ def by_byte(line, count, short, more):
 
 
 def column(line, count):
-    """What is told of an archive that shows so many packages."""
+    """The column of an archive that shows this number of packages."""
     more = uploads.make(f"{line.folder}/more-{count}", 2 * line.each, first=count)
     way = shown(line.archive, f"{line.folder}/short-{count}", count, 0)
     try:

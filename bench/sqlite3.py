@@ -22,7 +22,7 @@ import sqlite3
 from bench import measure, ways
 from uploads import uploads
 
-# A body of 4 MiB has so many pieces of so many bytes.
+# The number of pieces of a body of 4 MiB, and the number of bytes of a piece.
 PIECES, PIECE_SIZE = 64, 65_536
 
 START = "PRAGMA journal_mode = wal;\nPRAGMA synchronous = full;\nPRAGMA foreign_keys = on;\n"
@@ -54,7 +54,7 @@ def literal(value):
 
 
 def delivery(number, name, body):
-    """The statements of a delivery of a new body of one piece under a new name, the number of which is told."""
+    """The statements of a delivery of a new body of one piece under a new name; `number` is the number of that name."""
     prints = {"size": str(len(body))} | {it: blob(hashlib.new(it, body).digest()) for it in ("md5", "sha1", "sha256")}
     same = " AND ".join(f"{column} = {cell}" for column, cell in prints.items())
     cells = ", ".join(prints.values())
@@ -71,7 +71,7 @@ def delivery(number, name, body):
 
 
 def change(held, table, columns, number, row):
-    """The statement that makes a row what it is, where another or none stood in the old database."""
+    """The statement that makes a row what it is, if the old database had another row or none."""
     [old] = held.execute(f"SELECT * FROM old.{table} WHERE rowid = ?", (number,)).fetchall() or [None]
     if old is None:
         return f"INSERT INTO {table} VALUES ({', '.join(map(literal, row))});"
@@ -111,7 +111,7 @@ def checked(file):
 
 
 def deliveries(way, folder, count):
-    """What a delivery takes, one of the last tenth of so many, and then an opening."""
+    """What a delivery takes, for the last tenth of this number of deliveries, and then an opening."""
     bodies, last = uploads.small(count), -(-count // 10)
     paths = uploads.write(f"{folder}/files", bodies)
     way.make()
@@ -155,7 +155,7 @@ def large(way, folder):
 
 
 def run(way, folder, count):
-    """What a run of so many uploads takes."""
+    """What a run of this number of uploads takes."""
     given = uploads.make(f"{folder}/uploads", count)
     way.make()
     way.hand_in([path for paths in given for path in paths])

@@ -24,7 +24,7 @@ def fields():
 
 
 def listed(count):
-    """A .changes with three lists of so many different files."""
+    """A .changes with three lists of this number of different files."""
     bodies = {f"f{number:05}": number.to_bytes(4, "little") for number in range(count)}
     return uploads.changes_of("hostile", "1.0-1", bodies).decode()
 

@@ -1,7 +1,7 @@
 """Ways to an archive, each with the same calls: the program by its command lines, the program by HTTP, and reprepro.
 
-A call answers what it took, or nothing where the way has no such thing. Each looks at what is printed or replied, and ends
-the process where that is not what should come, so that no refusal is measured.
+A call answers what it took, or nothing if the way has no such call. Each call looks at what is printed or replied, and
+ends the process if that is wrong, so that no refusal is measured.
 """
 import contextlib
 import os
@@ -12,7 +12,7 @@ import time
 from bench import measure
 from uploads import uploads
 
-# How many files one `put` is given: the system takes only so many bytes of words.
+# The number of files that one `put` is given. The system takes only a limited number of bytes of words.
 MOST_WORDS = 10_000
 
 
@@ -43,7 +43,7 @@ def check_promoted(lines, sources):
 
 
 def check_run(lines, count):
-    """Checks that a run accepted so many uploads, and judged no more."""
+    """Checks that a run accepted this number of uploads, and judged no more."""
     check([line.split()[0] for line in lines.decode().splitlines()], ["accepted"] * count)
 
 
@@ -76,7 +76,7 @@ class Lines:
         return measure.total(parts)
 
     def hand_in_and_run(self, paths, count, word="new"):
-        """Delivers files and runs the queue, in which so many uploads are due then, by one list of commands."""
+        """Delivers files and runs the queue, in which this number of uploads is then due, by one list of commands."""
         pathlib.Path(f"{self.db}.list").write_text("".join(f"put {path}\n" for path in paths) + "run\n")
         taken, printed = self.line("batch", f"{self.db}.list")
         delivered = put_lines(paths, word)
@@ -85,7 +85,7 @@ class Lines:
         return taken
 
     def run(self, count):
-        """Runs the queue, in which so many uploads are due."""
+        """Runs the queue, in which this number of uploads is due."""
         taken, printed = self.line("run")
         check_run(printed, count)
         return taken
@@ -112,7 +112,7 @@ class Lines:
         return self.line("configure", f"{self.db}.conf")[0]
 
     def look_up(self, path, size):
-        """Looks up a file of the pool, of so many bytes."""
+        """Looks up a file of the pool, which has this number of bytes."""
         taken, printed = self.line("show", path, moment=False)
         check(len(printed), size)
         return taken
@@ -198,7 +198,7 @@ class Served(Lines):
 
 
 class Reprepro:
-    """What `reprepro processincoming` makes of the same files, with the same indices and none of them compressed."""
+    """The way of `reprepro processincoming`, with the same files and the same indices, none of them compressed."""
 
     title = "reprepro"
     takes_lists = False

@@ -27,14 +27,14 @@ from uploads import uploads
 
 
 def mean(parts):
-    """What one of these took, where the way has such a thing."""
+    """The mean of what these took, if the way has such a call."""
     parts = [part for part in parts if part]
     return measure.mean(parts) if parts else None
 
 
 def in_parts(way, paths, count):
-    """Hands files in and runs the queue, in which so many uploads are due then. Answers what each took, where it is done by itself,
-    and what both took."""
+    """Hands files in and runs the queue, in which this number of uploads is then due. Answers what each part took, if it is done by
+    itself, and what both took."""
     if way.takes_lists:
         return None, None, way.hand_in_and_run(paths, count)
     handed, run = way.hand_in(paths), way.run(count)
@@ -47,14 +47,14 @@ def together(way, paths, count):
 
 
 def again(way, paths):
-    """The same for files that were handed in and run before."""
+    """Hands in and runs files that were handed in and run before, as `in_parts` does."""
     if way.takes_lists:
         return way.hand_in_and_run(paths, 0, "again")
     return way.hand_in(paths, "again") + way.run(0)
 
 
 def workload(way, made):
-    """What is done with so many packages, and what it takes."""
+    """What is done with this number of packages, and what it takes."""
     first, more, large = made["first"], made["more"], made["large"]
     path, size = ways.pool_path_of(large[0]), os.path.getsize(large[0])
     files = [path for paths in first for path in paths]
@@ -82,7 +82,7 @@ def workload(way, made):
 
 
 def deliveries(way, files):
-    """What one delivery of the last tenth takes, where no opening is in it, and then an opening."""
+    """What one delivery of the last tenth takes, without an opening, and then an opening."""
     last = -(-len(files) // 10)
     way.make()
     way.hand_in(files[:-last])
@@ -93,7 +93,7 @@ def deliveries(way, files):
 
 
 def bodies(way, given):
-    """What an opening takes, where there are so many bodies of 4 MiB."""
+    """What an opening takes if there are this number of bodies of 4 MiB."""
     way.make()
     way.hand_in([path for paths in given for path in paths])
     way.run(len(given))
@@ -101,7 +101,7 @@ def bodies(way, given):
 
 
 def packages_made(line, count):
-    """The uploads of so many packages, and those beside them."""
+    """The uploads of this number of packages, and those beside them."""
     folder = f"{line.folder}/{count}-packages"
     upgrade = uploads.Package(uploads.name_of(0), version="2.0-1")
     beside = {"extra": uploads.Package("zextra"), "front": uploads.Package("aafront"), "upgrade": upgrade, "large": uploads.LARGE}

@@ -12,7 +12,7 @@ import textwrap
 
 ROOT = pathlib.Path(__file__).resolve().parent.parent
 VERSION = (ROOT / "VERSION").read_text(encoding="ascii").strip()
-# Where the package has the pages.
+# The paths of the pages in the package.
 DOCS = "/usr/share/doc/boqitsel"
 
 # The sections of the pages that each manual has, in order.
@@ -61,7 +61,8 @@ def escaped(text):
 
 
 def inline(text):
-    """A text with its spans, `code` and **strong**, as roff has it. Pages of the repository are named where the package has them."""
+    """A text with its spans, `code` and **strong**, as roff has it. Pages of the repository are named by their paths in the
+    package."""
     text = re.sub(r"\bdocs/(\w+\.md)", rf"{DOCS}/\1", text)
     text = re.sub(r"\bbin/(upload|with_sidecars|adopt|backup)\b", r"\1", text)
     made = ""

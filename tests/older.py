@@ -62,7 +62,7 @@ def print_of(body):
 
 
 def date_of(moment):
-    """A moment as a Release tells it, whatever the locale."""
+    """A moment as a Release writes it, whatever the locale."""
     it = time.gmtime(moment)
     day, month = "Mon Tue Wed Thu Fri Sat Sun".split()[it.tm_wday], "Jan Feb Mar Apr May Jun Jul Aug Sep Oct Nov Dec".split()[it.tm_mon - 1]
     return f"{day}, {it.tm_mday:02} {month} {it.tm_year:04} {it.tm_hour:02}:{it.tm_min:02}:{it.tm_sec:02} UTC"
@@ -90,7 +90,7 @@ class Suite:
 
 @dataclasses.dataclass
 class Upload:
-    """A .changes that arrived under this name, with the bodies of the files that it lists, and its place and verdict where it is judged."""
+    """A .changes that arrived under this name, with the bodies of the files that it lists, and, if it is judged, its place and verdict."""
 
     name: str
     lists: dict
@@ -146,7 +146,7 @@ class Archive:
         yield from (("files", (path, 1 + bodies.index(body))) for path, body in self.pool.items())
 
     def rows(self, layout):
-        """The rows of a layout, each behind those that it refers to."""
+        """The rows of a layout, each after those that it refers to."""
         yield "meta", (layout, self.configuration.encode())
         yield from self.first_rows() if layout == 1 else self.second_rows()
         yield from self.common_rows()
@@ -168,8 +168,8 @@ def hello():
 
 
 def archive(*, is_pair=False, more=(), configuration=None):
-    """An archive whose suite box shows hello, which arrived and was run. Behind it may be the suite lab, which shows nothing; and more
-    uploads, each with the bodies that have arrived for it, its .changes first."""
+    """An archive whose suite box shows hello, which arrived and was run. After it there may be the suite lab, which shows nothing; and
+    more uploads, each with the bodies that have arrived for it, its .changes first."""
     files = hello()
     (changes, _), (deb, package), (_, control) = files.items()
     path = "pool/main/h/hello/hello_1.0-1_amd64.deb"

@@ -1,5 +1,5 @@
-"""What stands in a tree that an export did not put there: kinds of files at its paths, which may lead to a folder outside of the tree, and that
-folder, which tells whether something in it was read, written or removed."""
+"""What an export did not put into a tree: kinds of files at its paths, which may lead to a folder outside of the tree, and that folder, which
+shows whether something in it was read, written or removed."""
 import os
 import shutil
 import stat
@@ -52,7 +52,7 @@ def plant(kind, path, outside):
 
 
 def number_of(path):
-    """What tells a file from another one in its place."""
+    """What distinguishes a file from another one in its place."""
     seen = os.lstat(path)
     return seen.st_dev, seen.st_ino, stat.S_IFMT(seen.st_mode)
 
@@ -100,7 +100,7 @@ class Outside:
         return found
 
     def faults(self):
-        """What is other than it was, as a list of texts. Nothing of it is told a second time."""
+        """What differs from what it was, as a list of texts. Nothing of it is reported a second time."""
         told = []
         for path, before in self.seen.items():
             if not os.path.lexists(path):

@@ -1,12 +1,13 @@
-"""Ports for servers of tests. A port that was asked for is free until its server has it: those that run at the same time, also of other tests, never
-ask for the same one, and the system gives none of these to a client by itself.
+"""Ports for servers of tests. A port that was asked for is free until its server has it: tests that run at the same time never ask for the same one,
+and the system gives no such port to a client by itself.
 
 Whoever asks claims a name of the port. The system gives a name to one process at a time, and takes it back if that ends, however it ends."""
 import contextlib
 import random
 import socket
 
-# The ports that the system gives to clients, and those below them as it is set up at first. apt-cacher-ng takes none above.
+# The ports that the system gives to clients, and those below them with its default settings. apt-cacher-ng takes no port
+# above.
 CHOICE = "/proc/sys/net/ipv4/ip_local_port_range"
 LEAST, MOST = 10_000, 32_768
 # The names of this process, by their ports.
@@ -33,7 +34,7 @@ def is_claimed(port):
 
 
 def is_free(port):
-    """Whether a server may have a port. What is left there of earlier connections keeps none away."""
+    """Whether a server may have a port. What is left there of earlier connections does not matter."""
     with socket.socket() as it, contextlib.suppress(OSError):
         it.setsockopt(socket.SOL_SOCKET, socket.SO_REUSEADDR, 1)
         it.bind(("127.0.0.1", port))

@@ -1,6 +1,6 @@
 """The built program, for tests: lines of it over a database file, an archive that it serves on loopback, and clients of that which are quick,
-silent, slow or rude. It is the program that `rt ci` or `make build` built, or the one that ARCHIVE names; where there is none the tests say
-that they were skipped.
+silent, slow or rude. It is the program that `rt ci` or `make build` built, or the one that ARCHIVE names; if there is none the tests say that
+they were skipped.
 
 Each waits for a limited time, and each process is ended whatever happens."""
 import contextlib
@@ -78,7 +78,7 @@ class Lines(unittest.TestCase):
 
 @contextlib.contextmanager
 def mounted(size):
-    """A folder on a file system of so many bytes. The test is skipped if it can't be had."""
+    """A folder on a file system of this number of bytes. The test is skipped if there can be none."""
     with tempfile.TemporaryDirectory() as folder:
         words = ["mount", "-t", "tmpfs", "-o", f"size={size}", "none", folder]
         if not path_of("mount") or subprocess.run(words, capture_output=True, check=False).returncode:
@@ -93,8 +93,8 @@ def mounted(size):
 
 
 class Serving:
-    """`serve` over a database file, with so many connections at a moment, and more words. It may run under another program, and its
-    standard error may go elsewhere. The program may be another, too, and the address one that was free."""
+    """`serve` over a database file, with this number of connections at a moment, and more words. It may run under another program,
+    and its standard error may go elsewhere. The program may be another, too, and the address one that was free."""
 
     def __init__(self, db, count, *words, at="0", under=(), stderr=None, program=PROGRAM, address=None):
         self.address = address or free_address()
@@ -118,14 +118,14 @@ class Serving:
         return self.process.poll() is None
 
     def connected(self):
-        """A client with a connection. It is tried again for a while where nothing listens yet."""
+        """A client with a connection. If nothing listens yet, it is tried again for a while."""
         end = time.monotonic() + SOON
         while True:
             it = socket.socket()
             it.settimeout(LONG)
             with contextlib.suppress(ConnectionRefusedError, ConnectionResetError):
                 it.connect(self.address)
-                if it.getsockname() != it.getpeername():  # a client may be connected to itself where nothing listens
+                if it.getsockname() != it.getpeername():  # a client may be connected to itself if nothing listens
                     return it
             it.close()
             if time.monotonic() > end or not self.is_running():
@@ -149,8 +149,8 @@ class Serving:
         return tuple(os.pread(it, os.fstat(it).st_size, 0).decode(errors="backslashreplace") for it in files)
 
     def logged(self, count):
-        """Waits until so many lines are logged, of which the last is written behind its reply. Answers all that is there then, or behind
-        the longest wait."""
+        """Waits until `count` lines are logged; the last is written after its reply. Answers everything that is then there, at the
+        latest after the longest wait."""
         end = time.monotonic() + LONG
         while (told := self.said()[1]).count("\n") < count and self.is_running() and time.monotonic() < end:
             time.sleep(0.01)
@@ -200,7 +200,7 @@ def reset(client):
 
 
 def status_of(reply):
-    """The status of a reply, or nothing where there is none."""
+    """The status of a reply, or nothing if there is no reply."""
     return int(reply.split()[1]) if reply else None
 
 

@@ -163,7 +163,7 @@ class Call:
         return refused, run.stdout, run.stderr
 
     def outcome(self, printed):
-        """`refused` or `at once`, or nothing where the program printed something else."""
+        """`refused` or `at once`, or nothing if the program printed something else."""
         words = {it: "(at once|refused)" if it == self.keeper else "at once" for it in self.keepers}
         wanted = "".join(f"begin\nend\n{words[it]}\n{it}: {self.file}: {self.rows} rows\n" for it in self.keepers)
         found = re.fullmatch(wanted, printed)

@@ -5,7 +5,7 @@ from typing import NamedTuple
 # The most repetitions of a text, and the most bytes to fill a word to.
 MOST = 8_388_608
 
-# A text in quotes with what stands behind it, or a name; and a word, of such pieces, or bare.
+# A text in quotes with what follows it, or a name; and a word, of such pieces, or bare.
 PIECE = rb'(?:"(?:[^"\\]|\\.)*"[^ +"]*|\$[^ +"]*)'
 WORD = re.compile(rb'(?<![^ ])(?:%b(?:\+%b)*|[^ "$][^ "]*)(?![^ ])' % (PIECE, PIECE))
 ESCAPE = re.compile(rb"\\(?:x([0-9A-Fa-f]{2})|(.?))", re.DOTALL)
@@ -13,7 +13,7 @@ ESCAPED = {b"n": b"\n", b"r": b"\r", b"t": b"\t", b"\\": b"\\", b'"': b'"'}
 
 
 class Unread(Exception):
-    """Why a row can't be read or asked. Nothing behind it is read."""
+    """Why a row can't be read or asked. Nothing after it is read."""
 
 
 class Row(NamedTuple):
@@ -25,7 +25,7 @@ class Row(NamedTuple):
 
 
 def unescaped(text, number=None):
-    """A text with the bytes that its escapes stand for. A `\\i` stands for the number, where there is one."""
+    """A text with the bytes that its escapes stand for. A `\\i` stands for the number, if there is one."""
 
     def byte(found):
         digits, letter = found.groups()
@@ -41,14 +41,14 @@ def unescaped(text, number=None):
 
 
 def repeated(text, count):
-    """What stands in quotes, so often: each with its number, where it has one."""
+    """The text in quotes, as often as this: each with its number, if it has one."""
     if b"\\i" in text:
         return b"".join(unescaped(text, number) for number in range(count))
     return unescaped(text) * count
 
 
 def filled(word, text, length):
-    """A word, and behind it what stands in quotes until it is so long."""
+    """A word, and after it the text in quotes until the word has this length."""
     word, same = bytearray(word), None if b"\\i" in text else unescaped(text)
     for number in range(length):
         if len(word) >= length:
@@ -60,7 +60,7 @@ def filled(word, text, length):
 
 
 def with_piece(word, piece, texts):
-    """A word, and behind it a piece."""
+    """A word, and after it a piece."""
     if piece.startswith(b"$"):
         if piece[1:] not in texts:
             raise Unread("no text has this name")
@@ -73,7 +73,7 @@ def with_piece(word, piece, texts):
 
 
 def with_word(word, read, texts):
-    """A word or what is read of an answer, and behind it a word of a line: a bare one, or its pieces."""
+    """A word or what is read of an answer, and after it a word of a line: a bare one, or its pieces."""
     if read[:1] not in (b'"', b"$"):
         return word + read
     for piece in re.findall(PIECE, read, re.DOTALL):
@@ -97,7 +97,7 @@ def words_of(line):
 
 
 def row_of(line, behind, texts):
-    """The words of a row, and its answer, of which a row that names a text has none. Behind its line stand the lines of a text."""
+    """The words of a row, and its answer, which a row that names a text does not have. After its line come the lines of a text."""
     read = words_of(line)
     place = read.index(b"=") if b"=" in read else len(read)
     words, answer = [with_word(b"", it, texts) for it in read[:place]], answer_of(read[place + 1:], texts)
@@ -122,7 +122,7 @@ def name_text(texts, words):
 
 
 def lines_of(text):
-    """The line of each row with its number, and the lines of a text that stand behind it."""
+    """The line of each row with its number, and the lines of a text that follow it."""
     row = None
     for number, line in enumerate(text.split(b"\n"), 1):
         if line.startswith(b"|"):

@@ -27,9 +27,9 @@ BEFORE = [
     "tests.test_upload",
 ]
 GATE = ["rt", "ci"]
-# How the gate is begun. With a head start its first crates, which wait for each other, are proved before it, by two jobs each. It takes a kit that
-# keeps what was proved of crates that are named; such a kit proves none by name if CI=true. With jobs there is a check for each
-# processor, of one job each, if there is memory for it. Else rt goes by its own count of memory, and gives idle processors to checks.
+# How the gate is begun. With a head start its first crates, which wait for each other, are proved before it, by two jobs each. This takes a kit
+# that keeps what was proved of crates that are named; such a kit proves no crate by name if CI=true. With jobs there is a check for each
+# processor, of one job each, if there is memory for it. Otherwise rt goes by its own count of memory, and gives idle processors to checks.
 HAS_HEAD_START = True
 HAS_JOBS = True
 # The crates that stand on each other at its beginning, lowest first, and those that stand on few of them and on which much waits.
@@ -99,7 +99,7 @@ def free_memory():
 
 
 def kit():
-    """The number and the letter of the kit, as (13, "f"), or None if it says none."""
+    """The number and the letter of the kit, as (13, "f"), or None if it gives none."""
     ran = subprocess.run(["rt", "--version"], stdin=subprocess.DEVNULL, capture_output=True, text=True, check=False)
     found = re.match(r"rattle-kit-(\d+)([a-z]*) ", ran.stdout)
     return found and (int(found[1]), found[2])
@@ -164,8 +164,8 @@ def told_of_skipped(lines):
 
 
 def run_all(*parts):
-    """Runs parts, each of which answers how much passed and failed, and lines that are printed once more at the end, where a log that lost its middle has
-    them. Prints what the parts come to, as the last lines. Answers the status."""
+    """Runs parts, each of which answers how much passed and failed, and lines that are printed once more at the end, so that a log that lost its middle
+    has them. Prints the totals of the parts as the last lines. Answers the status."""
     passed, failed, again = 0, 0, []
     with tempfile.NamedTemporaryFile("r", encoding="utf-8") as skipped:
         os.environ["SKIPPED"] = skipped.name

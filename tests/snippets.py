@@ -223,7 +223,7 @@ class Room:
         return pathlib.Path(self.folder, name).read_text(encoding="utf-8", errors="backslashreplace")
 
     def start(self, words, port=None):
-        """Starts a program, which is ended with the room, and waits until it listens at a port. What it prints goes to the file `told`."""
+        """Starts a program, which is ended with the room, and waits until it listens at a port. Its output goes to the file `told`."""
         words = [shutil.which(words[0], path=self.variables["PATH"]), *words[1:]]
         with open(f"{self.folder}/told", "ab") as out:
             streams = {"stdin": subprocess.DEVNULL, "stdout": out, "stderr": subprocess.STDOUT}
@@ -263,7 +263,7 @@ class Room:
         process.wait()
 
     def certificate(self):
-        """Makes a certificate for localhost, where there is none, and answers its path and that of its key."""
+        """Makes a certificate for localhost, if there is none, and answers its path and that of its key."""
         paths = f"{self.folder}/certificate.pem", f"{self.folder}/key.pem"
         if not os.path.exists(paths[0]):
             words = ["openssl", "req", "-x509", "-newkey", "rsa:2048", "-nodes", "-days", "2", "-out", paths[0], "-keyout", paths[1]]

@@ -59,7 +59,7 @@ def remove_database(path):
 
 
 def copy_database(path, target):
-    """Copies a database, with the log beside it where there is one."""
+    """Copies a database, with the log beside it if there is one."""
     remove_database(target)
     for end in ("", "-wal"):
         with contextlib.suppress(FileNotFoundError):
@@ -70,14 +70,15 @@ def copy_database(path, target):
 
 
 def expect(is_so, command, what, *answers):
-    """Ends it where something is not so."""
+    """Ends the run if something is not so."""
     if not is_so:
         told_too = "".join(f"\n  {it!r:.2000}" for it in answers)
         raise Difference(f"{command}: {what}{told_too}")
 
 
 def compare_killed(command, killed, whole, found):
-    """Of a command that was killed: the state behind the kill is that before it or that behind it, and the answer goes with it."""
+    """Checks a command that was killed: the state after the kill is that before or that after the command, and the answer goes
+    with it."""
     before, between, behind = whole.looks
     first, second = whole.first, whole.second
     look, partial = killed.looks[0], killed.partial
@@ -103,7 +104,8 @@ def compare_given(commands, killed, whole, state):
 
 
 def compare_attempt(stretch, attempt, first, second, state):
-    """What a list was answered from one command on: up to some command behind a kill as if given twice, and then as if once."""
+    """Checks the answers of a list from one command on: up to some command after a kill as if given twice, and then as if given
+    once."""
     is_repeat, may_be_done = attempt.start > 0 or attempt.is_again, True
     end = stretch.end_behind(attempt.start) if is_repeat else 0
     for number, answer in enumerate(attempt.answers, attempt.start):
@@ -200,7 +202,7 @@ class Pair:
         return paths
 
     def rows(self, side):
-        """The rows of an archive, read by SQLite from a copy. One that has no STRICT tables reads none."""
+        """The rows of an archive, read by SQLite from a copy. An SQLite without STRICT tables reads none."""
         if sqlite3.sqlite_version_info < (3, 37):
             return {}
         copy_database(side.db, f"{side.db}.copy")
@@ -229,7 +231,7 @@ class Pair:
 
 
 def end_of(state, words):
-    """Where the next line is printed."""
+    """The number of commands after which the next line is printed."""
     return min((state.place // words.each + 1) * words.each, words.commands, (state.place // PER_ARCHIVE + 1) * PER_ARCHIVE)
 
 
@@ -305,7 +307,7 @@ def words_of(line):
 
 
 def end_by_signal(*_):
-    """Ends it where it is, with all that it started."""
+    """Ends the run at once, with all that it started."""
     raise SystemExit(1)
 
 

@@ -29,20 +29,22 @@ SHARES = {
 LENGTHS = {"serve": (100, 400), "batch": (100, 600), "put": (2, 12), "line": (2, 6)}
 KILLED = {"batch": 0.5, "put": 0.5, "line": 0.2, "serve": 0.006, "between": 0.002}
 
-# The commands that are answered by lines of which there may be none or many. A list makes and prints what stands before them at the
-# latest with them. Of a list that is killed, these and others that change something have a guard behind them, which asks what waits: what
-# follows it is begun once all before it is printed. So what had no line and may be done is a command and the files in front of it.
+# The commands that are answered by any number of lines, even none. A list makes and prints what comes before such a command at the latest
+# together with it. In a list that is killed, these commands and others that change something have a guard after them, which asks what
+# waits: what follows the guard is begun only when all before it is printed. So what had no line and may be done is a command and the
+# files before it.
 WITH_LINES = {"run", "promote", "waiting", "verdicts", "guard"}
 GUARDED = {"run", "promote", "waiting", "verdicts", "copy", "remove", "clean"}
 
-# What stands in a list and is no command that is counted.
+# Words of a list that are no command to be counted.
 UNCOUNTED = {"mark", "guard"}
 
 
 @dataclasses.dataclass(frozen=True)
 class Kill:
-    """A SIGKILL: between two commands, or within one, behind a share of its bytes. Within a request it falls so many seconds behind them,
-    within a list or a line after a share of the time that it takes. Then so many processes are killed while they open the archive."""
+    """A SIGKILL: between two commands, or within one, after a share of its bytes. Within a request it falls some seconds after them,
+    within a list or a line after a share of the time that it takes. Then this number of processes is killed while they open the
+    archive."""
 
     is_between: bool
     sent: float
@@ -68,7 +70,7 @@ class Command:
 
 @dataclasses.dataclass(frozen=True)
 class Stretch:
-    """Commands that are given in one way. Where it is a list that is killed, `ends` tells where its guards end."""
+    """Commands that are given in one way. If it is a list that is killed, `ends` says where its guards end."""
 
     way: str
     commands: tuple
@@ -79,7 +81,7 @@ class Stretch:
         return sum(it.word not in UNCOUNTED for it in self.commands)
 
     def end_behind(self, start):
-        """The first end behind a command."""
+        """The first end after a command."""
         return next((it for it in self.ends if it > start), len(self.commands))
 
 
@@ -119,7 +121,7 @@ class Drawing:
         return getattr(soak_files, kind)(file, chance)
 
     def name(self):
-        """The name of a source or a package, or one that none has."""
+        """The name of a source or a package, or an unused one."""
         source = soak_files.Source(self.chance.randrange(soak_files.SOURCES))
         return self.chance.choices((source.name, f"{source.name}-data", "nosuch"), (85, 10, 5))[0]
 
@@ -137,7 +139,7 @@ class Drawing:
         return self.chance.choices(["box", "lab", "old", "moon"], [45, 30, 20, 2], k=count)
 
     def words(self, word, way):
-        """The words behind the word of a command."""
+        """The words after the word of a command."""
         if word == "copy":
             return *self.suites(2), self.name()
         if word == "promote":
@@ -152,7 +154,7 @@ class Drawing:
         return {"show": lambda: (self.path(),), "unreadable": lambda: ("nosuch.deb",)}.get(word, tuple)()
 
     def kill(self, way):
-        """A kill within what is given in this way, or between two requests, or none."""
+        """A kill within what is given in this way, or between two requests, or no kill."""
         chance = self.chance
         drawn = chance.random()
         is_between = way == "serve" and KILLED[way] <= drawn < KILLED[way] + KILLED["between"]
@@ -203,7 +205,7 @@ class Drawing:
         return Stretch(way, tuple(commands), tuple(kills), tuple(ends))
 
     def stretch(self, most):
-        """The next stretch, of about so many commands at most."""
+        """The next stretch, of at most about this number of commands."""
         way = self.chance.choices([*WAYS], [*WAYS.values()])[0]
         count = min(self.chance.randrange(*LENGTHS[way]), most)
         made = (self.requests if way in ("serve", "line") else self.list)(way, count)

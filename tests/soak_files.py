@@ -1,8 +1,8 @@
 """What soak.py delivers: the files of uploads, and files that an archive has to refuse.
 
-Some thirty sources have versions that rise. Three revisions of one upstream version share its tarball, which mostly the first alone
+Some thirty sources have versions that rise. Three revisions of one upstream version share its tarball, which usually only the first
 lists. An upload comes in one of several forms, some of which are refused. What the archive's configuration and an upload by itself
-say of its verdict is told here, by the rules of docs/FAULTS.md and not by the program."""
+say of its verdict is decided here, by the rules of docs/FAULTS.md and not by the program."""
 import dataclasses
 import functools
 import hashlib
@@ -67,8 +67,8 @@ def print_of(body):
 
 @dataclasses.dataclass(frozen=True)
 class File:
-    """A file to deliver. The archive refuses it with the fault that is told, or with one that begins so where a star ends it. A
-    .changes has what it lists, as names and prints, and the verdict that it gets whatever is shown, where there is one."""
+    """A file to deliver. The archive refuses it with `fault`, or, if that ends with a star, with a fault that begins like it. A
+    .changes has what it lists, as names and prints, and, if there is one, the verdict that it gets whatever is shown."""
 
     name: str
     body: bytes
@@ -81,7 +81,7 @@ class File:
         return self.name, print_of(self.body)
 
     def stored(self, folder):
-        """Where the file stands below a folder. Where it is not there it is written, and then put there whole."""
+        """The path of the file below a folder. If it is not there it is written, and then put there whole."""
         path, new = f"{folder}/{self.key[1][3].hex()[:24]}/{self.name}", f"{folder}/{threading.get_ident()}"
         if not os.path.exists(path):
             os.makedirs(os.path.dirname(path), exist_ok=True)
@@ -122,7 +122,7 @@ class Source:
 
 
 def filling(text, size):
-    """A body of so many bytes that begins with a text."""
+    """A body of this number of bytes that begins with a text."""
     return text.encode() + hashlib.shake_128(text.encode()).digest(size)
 
 
@@ -236,7 +236,7 @@ SPOILT = (
 
 
 def spoilt(file, chance):
-    """A .changes that is none any more."""
+    """A .changes that is no longer valid."""
     change, fault = SPOILT[min(int(chance.expovariate(0.3)), len(SPOILT) - 1)]
     return File(file.name, change(file.body, chance), fault)
 
@@ -251,7 +251,7 @@ def wrong(file, chance):
 
 
 def ill_named(file, chance):
-    """A file under a name that none may have, or a file that is too large."""
+    """A file under a name that no file may have, or a file that is too large."""
     if chance.random() < 0.03:
         return File(file.name, TOO_LARGE, "Q2")
     return File(chance.choice(BAD_NAMES), file.body, "Q1")

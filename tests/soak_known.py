@@ -1,8 +1,8 @@
-"""What soak.py knows of an archive from outside: which answers deliveries, runs, cleanings and lists have, by docs/USING.md and
+"""What soak.py knows of an archive from outside: the answers of deliveries, runs, cleanings and lists, by docs/USING.md and
 docs/FAULTS.md and not by the program, and what its indices have to hold.
 
-Not known is which of two uploads was accepted where that depends on what is shown, and what a copy or a removal found: for these one
-archive is compared with another."""
+It does not know which of two uploads was accepted if that depends on what is shown, nor what a copy or a removal found. For these
+one archive is compared with another."""
 import collections
 import hashlib
 import re
@@ -32,7 +32,7 @@ ANSWERS = {
 
 
 def told(command, answer):
-    """An answer as a list tells it, whatever the way was."""
+    """An answer as a list has it, whatever the way was."""
     if isinstance(answer, tuple):
         return told_of_line(command, *answer)
     found = REPLY.match(answer)
@@ -45,7 +45,7 @@ def refused(command, fault):
 
 
 def with_words(command, number):
-    """A number that a command printed, as a list tells it."""
+    """A number that a command printed, as a list has it."""
     if command.word not in DONE:
         return number
     return " ".join([DONE[command.word], number.decode().rstrip("\n"), *command.words[-1:]]).encode() + b"\n"
@@ -66,7 +66,7 @@ def told_of_reply(command, status, body):
 
 
 class Known:
-    """What is known of an archive in which files count for so many days."""
+    """What is known of an archive in which files count for this number of days."""
 
     def __init__(self, days):
         self.span = days * DAY
@@ -169,7 +169,7 @@ class Known:
 
 
 def order(key):
-    """Where an upload stands among those that are judged: by its name, SHA-256, SHA-1, MD5 and size."""
+    """The place of an upload in the order of judging: by its name, SHA-256, SHA-1, MD5 and size."""
     name, (size, md5, sha1, sha256) = key
     return name.encode(), sha256, sha1, md5, size
 
@@ -222,8 +222,8 @@ def pool_of(text):
 
 
 def shown(serving, looks):
-    """All that an archive shows: each index, and each file of the pool that an index names. Each Release tells its indices, and each
-    index its files, as hashlib has them."""
+    """Everything that an archive shows: each index, and each file of the pool that an index names. Each Release lists its indices,
+    and each index its files, as hashlib has them."""
     texts, files = {}, {}
     for suite, indices in INDICES.items():
         for path in (f"dists/{suite}/{it}" for it in ("Release", *indices)):

@@ -1,8 +1,8 @@
 """An archive in a database file, and the ways in which soak.py gives it commands: requests to `serve`, a list to `batch`, files to
 one `put`, and lines of their own. It may be killed where commands have a kill; another gets the same without.
 
-Of an archive that is killed, what had no answer is given again. The other is given the same again, behind the first time, so that it tells
-what the answer is the second time. It also tells what it shows before, between and behind."""
+In an archive that is killed, what had no answer is given again. The other archive is given the same command twice, so that it shows what
+the second answer is. It also shows its contents before, between and after."""
 import collections
 import contextlib
 import dataclasses
@@ -58,7 +58,7 @@ class Given:
 
 @dataclasses.dataclass
 class Attempt:
-    """What a part of a list was answered, from a command on: whole answers, none for a guard that was cut off, and perhaps a part of the
+    """The answers to a part of a list, from a command on: whole answers, none for a guard that was cut off, and perhaps a part of the
     next. It may be the second time."""
 
     start: int
@@ -118,7 +118,7 @@ def answered(serving, command):
 
 
 def count_of_lines(command, following, lines):
-    """How many of these lines answer a command: those before the mark behind it, or all where no command follows."""
+    """How many of these lines answer a command: those before the mark after it, or all if no command follows."""
     if command.word not in WITH_LINES:
         return 0 if command.word == "unreadable" else 1
     if not following:
@@ -141,7 +141,8 @@ def divided(commands, text):
 
 
 def pass_guard(stretch, attempt):
-    """A guard whose lines were cut off, or perhaps had none, is not given again: what follows it may have been begun."""
+    """Does not repeat a guard whose lines were cut off, or that perhaps had none: what follows it may have been
+    begun."""
     place = attempt.start + len(attempt.answers)
     if place < len(stretch.commands) and stretch.commands[place].word == "guard":
         attempt.answers.append(None)
@@ -264,7 +265,7 @@ class Side:
     # ---- requests
 
     def serve(self, moment, count):
-        """Starts `serve`. What it took up to its first answer is told later."""
+        """Starts `serve`. The time up to its first answer is printed later."""
         with open(f"{self.db}.moment", "w", encoding="ascii") as it:
             it.write(f"{moment}\n")
         self.begun = time.monotonic()
@@ -326,7 +327,8 @@ class Side:
         return Given(answered(self.serving, command))
 
     def connections(self, stretch):
-        """How many connections a server has that is not killed: one for each command, those that look, and more where it is given twice."""
+        """The number of connections of a server that is not killed: one for each command, those that look, and more if a command is given
+        twice."""
         twice = sum(it.kill is not None and not it.kill.is_between for it in stretch.commands)
         return len(LOOKS) + len(stretch.commands) + twice * (3 * len(LOOKS) + 1)
 
