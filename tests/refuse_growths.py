@@ -1,10 +1,10 @@
 """Each growth of each call is refused once: `python3 -m tests.refuse_growths [--part] [CALL..]`.
 
-The calls are the rows `call ..` of data/*.growths and data/*.moves of the crate `test_archives`, of which the latter read and migrate
-archives of older layouts; CALL is the first word of some of them. For each call a file is written that has its story alone, in which this one
-call is marked, so that the program that `rt ci` built of `test_archives` (or the one that TEST_ARCHIVES names) prints `begin` and `end`
-around it. It runs once for each growth between the marks, and this one is refused: a library that is loaded before the C library counts
-what `malloc` and `realloc` are asked for. That goes on until a growth is not reached.
+The calls are the rows `call ..` of data/*.growths and data/*.moves of the crate `test_archives`; the latter read and migrate archives of
+older layouts. CALL is the first word of some of them. For each call a file is written that has only its story, in which this one call is
+marked, so that the program that `rt ci` built of `test_archives` (or the one that TEST_ARCHIVES names) prints `begin` and `end` around it. It
+runs once for each growth between the marks, and this growth is refused: a library that is loaded before the C library counts the requests to
+`malloc` and `realloc`. That goes on until a growth is not reached.
 
 With --part, as `make test` has it, each growth is refused over the keeper in memory alone. Over tables, and of an archive of an older layout, the
 first is, each tenth, and the last of those that come if none is refused.

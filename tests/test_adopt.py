@@ -1,5 +1,5 @@
-"""Tests of bin/adopt, on archives that reprepro, aptly, apt-ftparchive and dpkg-scanpackages make of packages that dpkg-deb and dpkg-source make. Where
-there is the program of program.py it takes what comes, and the real apt looks at both."""
+"""Tests of bin/adopt, on archives that reprepro, aptly, apt-ftparchive and dpkg-scanpackages make of packages that dpkg-deb and dpkg-source make. If
+the program of program.py is there it takes what comes, and the real apt looks at both."""
 import contextlib
 import functools
 import gzip

@@ -1,9 +1,9 @@
-"""Tests of archives that other programs made. The file tests/archives/N.db is an archive of layout N, which a released program made, or for
-the layouts 1 and 2, which none had, the statements of older.py; and N.expected tells what it shows: behind each line `$ WORDS`, with the
-words of a command without its database, what that prints, with a line `(no newline)` behind a text without an end. The file of the layout
-that tables::meta::VERSION names has to be there; whoever changes the layout raises the number and adds a file. The archives of older
-layouts are taken through `migrate` first, under the configuration that they have. Then the line of 'Upgrading' in docs/OPERATING.md is run. The
-program is that of program.py."""
+"""Tests of archives that other programs made. The file tests/archives/N.db is an archive of layout N, which a released program made. No
+released program made the layouts 1 and 2: for these it is made by the statements of older.py. N.expected has what the archive shows: after each
+line `$ WORDS`, with the words of a command without its database, what that prints, with a line `(no newline)` after a text without an end. The
+file of the layout that tables::meta::VERSION names has to be there; whoever changes the layout raises the number and adds a file. The archives
+of older layouts are taken through `migrate` first, under the configuration that they have. Then the line of 'Upgrading' in docs/OPERATING.md is
+run. The program is that of program.py."""
 import os
 import pathlib
 import re
@@ -141,7 +141,7 @@ class Copies(Shown):
         self.shows(layout())
 
     def test_it_takes_an_upload(self):
-        """One that is whole is judged, and shown behind what was there."""
+        """A whole upload is judged, and shown after what was there."""
         self.printed(["put", "--at", "1467436851", *uploads.write(f"{self.folder}/world", uploads.upload_of(WORLD))])
         self.assertEqual(self.printed(["run", "--at", "1467436851"]), b"accepted world_1.0-1_amd64.changes\n")
         text = self.printed(["show", "dists/box/main/binary-amd64/Packages"])

@@ -1,5 +1,6 @@
 """Tests of bin/backup. A stand-in has the database as the archive has it, and writes one number after the other to it and to its log, at once for whoever
-looks between two steps. Where there is the program of program.py, `serve` has it too, while a client puts files, and backups are killed at random moments."""
+looks between two steps. If the program of program.py is there, `serve` has the database too, while a client puts files, and backups are killed at random
+moments."""
 import contextlib
 import errno
 import fcntl
@@ -90,7 +91,7 @@ class Holder:
         self.process.communicate()
 
     def number(self):
-        """The number that it has written to both files, which it tells at once if it is not held."""
+        """The number that it has written to both files, which it reports at once if it is not held."""
         self.process.stdin.write(b"x")
         self.process.stdin.flush()
         return int(self.process.stdout.readline())

@@ -1,7 +1,7 @@
-"""Tests of lists of commands. What a list of a thousand lines prints, and what each index is behind it, is what the same commands give
-one by one, each over an opening of its own: some of them are refused, and some files can't be read. And where a list ends that finds no
-memory or no room: over files that may not grow, and over a file system that is nearly full, which root may mount; where that is not there
-the test says that it was skipped. The program is that of program.py."""
+"""Tests of lists of commands. What a list of a thousand lines prints, and what each index is after it, is what the same commands give one
+by one, each over an opening of its own: some of them are refused, and some files can't be read. Other tests are of where a list ends that
+finds no memory or no room: over files that may not grow, and over a file system that is nearly full, which root may mount; if that is not
+there the test says that it was skipped. The program is that of program.py."""
 import functools
 import os
 import random
@@ -39,13 +39,13 @@ STEPS, MEMORY_STEP, ROOM_STEP = 24, 32_768, 8192
 
 
 def limit(resource_, most):
-    """Lets this process have so much of a resource. Python ignores the signal that tells of a file that may not grow, so that the call
-    alone tells it."""
+    """Limits a resource of this process to this amount. Python ignores the signal for a file that may not grow, so that only the call
+    reports it."""
     resource.setrlimit(resource_, (most, resource.getrlimit(resource_)[1]))
 
 
 def least(is_enough, most):
-    """The least number from 1 to `most` that is enough, where each greater one is, too."""
+    """The least number from 1 to `most` that is enough; each greater one has to be enough, too."""
     too_little = 0
     while most - too_little > 1:
         middle = (too_little + most) // 2
@@ -101,7 +101,7 @@ class Batch(Folder):
             }.get(word, [word])
 
     def answer(self, db, word, *words):
-        """What a command prints that is given by itself, as a list tells it, on both outputs."""
+        """What a command prints that is given by itself, as a list prints it, on both outputs."""
         moment = [] if word == "verdicts" else ["--at", MOMENT]
         _, printed, told = self.ran(word, "--db", db, *moment, *words)
         if told and word != "put":
@@ -174,8 +174,8 @@ class Moving(Folder):
         return [suite for suite, text in texts.items() if f"Package: {self.NAME}\n" in text]
 
     def expect(self, moved, db, free, most, failed):
-        """Expects that nothing is lost, however little there is. `moved` makes the list over a new archive with so many steps of what it
-        needs; `free` lets the archive have all; the end `failed` has to come where the copy found too little."""
+        """Expects that nothing is lost, however little there is. `moved` makes the list over a new archive with this number of steps of
+        what it needs; `free` lets the archive have all; the end `failed` has to come if the copy found too little."""
         ends = set()
         enough = least(lambda steps: moved(steps)[0] == 0, most)
         for steps in range(max(1, enough - STEPS), enough):

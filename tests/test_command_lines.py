@@ -15,7 +15,7 @@ CONF = tempfile.NamedTemporaryFile(suffix=".conf")
 CONF.write(b"Codename: box\nArchitectures: amd64 source\nComponents: main\n")
 CONF.flush()
 
-# The words of each command behind its own.
+# The words of each command after its own.
 COMMANDS = {
     "put": ["--db", "a.db", "--at", "0", f"{DATA}/{NAMES[1]}"],
     "run": ["--db", "a.db", "--at", "0"],
@@ -35,7 +35,7 @@ COMMANDS = {
     "serve": ["--db", "a.db", "--at", "0", "127.0.0.1:0", "1"],
 }
 
-# The words of each command's usage, behind `archive`.
+# The words of each command's usage, after `archive`.
 USAGES = {
     "try": "try <PATH>...",
     "compare": "compare <A> <B>",
@@ -150,7 +150,7 @@ class Itself(Lines):
         self.folder = os.path.dirname(self.db)
 
     def refused(self, path, db="box.db", before=()):
-        """A `put` in the folder whose last path is not read, behind some that are."""
+        """A `put` in the folder whose last path is not read, after some that are."""
         words = ["put", "--db", db, "--at", "0", *before, path]
         ran = subprocess.run([PROGRAM, *words], cwd=self.folder, capture_output=True, text=True, check=False, timeout=60)
         new = "".join(f"new {os.path.basename(it)}\n" for it in before)

@@ -1,7 +1,7 @@
-"""Tests of configurations that an archive gets: of the rows in the file, by SQLite itself; of an archive that was served, and is served
-again; and of a kill within `configure`, behind which the archive has the one configuration or the other, whole. The program is that of
-program.py. Where there is no strace, a kill comes at times alone, and where SQLite is too old for STRICT tables nothing is read by
-it; the tests say that they were skipped."""
+"""Tests of configurations that an archive is given: of the rows in the file, by SQLite itself; of an archive that was served, and is
+served again; and of a kill within `configure`, after which the archive has the one configuration or the other, whole. The program is
+that of program.py. Without strace a kill comes only at random times, and if SQLite is too old for STRICT tables it reads nothing; the
+tests say that they were skipped."""
 import contextlib
 import hashlib
 import os
@@ -65,7 +65,7 @@ def release(moment, architectures, texts):
 
 
 SHOWN = {"main/binary-amd64/Packages": PACKAGES}
-# What a Release is under each configuration, where the archive shows hello.
+# The Release under each configuration, if the archive shows hello.
 RELEASES = {BOX: release(RUN, ["amd64"], SHOWN), WIDE: release(LATER, ["amd64", "arm64"], SHOWN)}
 
 

@@ -1,7 +1,7 @@
-"""A test of the database files that the program makes, with SQLite itself: it reads them and finds them whole, and what it changes
-in one the program finds. And of a file that another process holds. The program is the one that `rt ci` or `make build` built, or
-the one that ARCHIVE names; where there is none the tests say that they were skipped, and so do those with SQLite where it is too
-old for STRICT tables."""
+"""A test of the database files that the program makes, with SQLite itself: SQLite reads them and finds them whole, and the program
+finds what SQLite changes in one. Another test is of a file that another process holds. The program is the one that `rt ci` or
+`make build` built, or the one that ARCHIVE names; if there is none the tests say that they were skipped, and so do those with
+SQLite if it is too old for STRICT tables."""
 import contextlib
 import sqlite3
 

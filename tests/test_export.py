@@ -75,7 +75,7 @@ def write(path, body):
 
 
 def contents(tree, but=()):
-    """What is in a tree: the bytes of each file, and where each link leads, by the path. Folders have None."""
+    """The contents of a tree: the bytes of each file, and the target of each link, by the path. Folders have None."""
     found = {}
     for folder, folders, files in os.walk(tree):
         for name in folders + files:
@@ -597,7 +597,7 @@ class Killed(Exports):
         subprocess.run([PROGRAM, word, "--db", self.db, *self.at(), *words], capture_output=True, check=False, timeout=120)
 
     def read_once(self, suite, waits):
-        """Reads a state, and what it names; `waits` is how long it stays behind before it asks for that."""
+        """Reads a state, and what it names; `waits` is the pause before it asks for that."""
         began = self.ended
         with contextlib.suppress(FileNotFoundError):
             folder = f"{self.tree}/dists/{os.readlink(f'{self.tree}/dists/{suite}')}"

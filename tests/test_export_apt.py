@@ -1,6 +1,6 @@
-"""The real apt over an exported tree, while exports go on. A static server tells which state of a suite each request was answered of. The
-program is that of program.py. EXPORT_APT_SECONDS says how long each test lasts, in place of 15 seconds, and EXPORT_APT_PAUSE how many seconds
-pass between two exports, in place of 1."""
+"""The real apt over an exported tree, while exports go on. A static server records the state of a suite from which each request was answered.
+The program is that of program.py. EXPORT_APT_SECONDS says how long each test lasts, instead of 15 seconds, and EXPORT_APT_PAUSE how many
+seconds pass between two exports, instead of 1."""
 import http.server
 import os
 import pathlib

@@ -193,7 +193,7 @@ class Files(Hostile):
         self.check_replaced(".boqitsel/lock", f"{SAME}pool 0 1 0 0\n", ["junk", "nothing"])
 
     def test_the_link_of_a_suite(self):
-        """It is replaced by a rename, whatever file it is. A state that is not of the suite is none that it shows."""
+        """It is replaced by a rename, whatever file it is. A suite does not show a state that is not its own."""
         shown = f"shown box {re.escape(self.states['box'])}\nsame lab\npool 0 1 0 0\n"
         self.check_replaced("dists/box", shown, [*LINKS, *OTHERS, "junk", "nothing"])
         self.check_stays("dists/box", "dists/box", ["folder"])
@@ -210,7 +210,7 @@ class States(Hostile):
     """What is in the folder of a state is mended."""
 
     def mended(self, count):
-        """What is printed of a state in which so many texts are right again."""
+        """What is printed of a state in which this number of texts is right again."""
         return f"(same box|shown box {re.escape(self.states['box'])})\nmended box {count}\nsame lab\npool 0 1 0 0\n"
 
     def place(self, path):
@@ -334,7 +334,8 @@ class Databases(Hostile):
     """The database at a path of the tree."""
 
     def places(self):
-        """Paths at which an export puts a file into a new tree, or that it removes, each with what is told of it."""
+        """Paths at which an export puts a file into a new tree, or that it removes, each with what is printed for
+        it."""
         state = f"dists/{self.states['box']}"
         told = {place: re.escape(place) for place in ("index.html", "uploads.html", DEB, ".boqitsel/files", ".boqitsel/new", ".boqitsel/link")}
         return {**told, f"{state}/Release": f"dists/{re.escape(self.states['box'])}(/Release)?", f"{state}/{PACKAGES}": f"dists/{re.escape(self.states['box'])}(/.*)?"}
@@ -671,7 +672,7 @@ class Gone(Hostile):
 
 
 class Served(Hostile):
-    """None of it stops a server: it says a line, and answers the next connection at once."""
+    """None of this stops a server: it logs a line, and answers the next connection at once."""
 
     @contextlib.contextmanager
     def serving(self, *flags, db=None):

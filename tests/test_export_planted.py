@@ -1,6 +1,6 @@
 """`serve --export` that is killed at random, while a script plants links, fifos, sockets, folders and junk in the tree, uploads go on, and readers ask. Nothing
 outside of the tree is read, written or removed, no client waits for long, and an export of what is left makes the tree right again. The program is that of
-program.py. A number on the command line is for how many seconds this goes on; PLANTED_SEED is where its chances begin."""
+program.py. A number on the command line is the seconds that this goes on; PLANTED_SEED seeds its chances."""
 import contextlib
 import os
 import random
@@ -18,7 +18,8 @@ from tests.wants import main
 
 SECONDS = 10
 
-# The longest that a client may wait, in seconds. If a line of the program takes long on this machine, it is so many times as long as that line.
+# The longest that a client may wait, in seconds. If a line of the program takes long on this machine, the wait is this many times the time of
+# that line.
 WAIT, TIMES = 10, 4
 
 NAMES = [f"p{number}" for number in range(6)]
@@ -35,14 +36,14 @@ LIES += "shown box ../../outside/folder -", "shown lab .box.new -"
 
 
 def names_in(folder, start=""):
-    """The names in a folder that begin so, in their order. There are none in a link."""
+    """The names in a folder with this beginning, in their order. A link has none."""
     if os.path.islink(folder) or not os.path.isdir(folder):
         return []
     return sorted(name for name in os.listdir(folder) if name.startswith(start))
 
 
 class Planter(threading.Thread):
-    """Plants files in a tree until it is told to stop. Each stays for so many seconds at the longest."""
+    """Plants files in a tree until it is stopped. Each stays for at most this number of seconds."""
 
     def __init__(self, chances, tree, outside, longest):
         super().__init__()

@@ -1,6 +1,6 @@
 """Tests of `serve` over a file that may not grow, over a disk that is full, and over one whose calls fail one by one. The second needs a
-file system of its own, which root may mount, the last strace; where that is not there they say that they were skipped. The program is
-that of program.py."""
+file system of its own, which root may mount, the last strace; if that is not there they say that they were skipped. The program is that
+of program.py."""
 import contextlib
 import os
 import re
@@ -20,7 +20,8 @@ ACCEPTED = replied("200 OK", f"accepted {NAMES[0]}\n".encode())
 ABC = replied("200 OK", b"abc", "application/octet-stream")
 DEB = "pool/main/h/hello/hello_1.0-1_amd64.deb"
 
-# Requests in their order, each with its reply, and with what may also be replied where it was sent before and answered 507.
+# Requests in their order, each with its reply, and with the reply that may come instead if the request was sent before and
+# answered 507.
 SESSION = (
     *((put(name), NEW, AGAIN) for name in NAMES),
     (get("queue"), replied("200 OK", f"0 {NAMES[0]}\n".encode()), None),
@@ -30,7 +31,7 @@ SESSION = (
     (get(DEB), ABC, None),
 )
 
-# How many connections there are behind a session, at least.
+# The least number of connections after a session.
 MORE = 3
 
 
@@ -47,13 +48,13 @@ def small(number):
 
 
 def let_files_grow(process, most=None):
-    """Lets the files that a process writes grow to so many bytes, or as far as they might before."""
+    """Lets the files that a process writes grow to this number of bytes, or as far as they might before."""
     hard = resource.prlimit(process.pid, resource.RLIMIT_FSIZE)[1]
     resource.prlimit(process.pid, resource.RLIMIT_FSIZE, (hard if most is None else most, hard))
 
 
 class FullFile(Lines):
-    # What runs a program that is told of a file that may not grow by its call alone.
+    # What runs a program so that only its call reports that a file may not grow.
     UNDER = ("sh", "-c", "trap '' XFSZ; exec \"$@\"", "sh")
 
     def test_what_is_answered_while_no_file_may_grow(self):
@@ -95,7 +96,7 @@ class FullDisk(Lines):
         self.expect_arrivals(db, [name_of("large", number) for number in (1, 2)] + [name_of("small", number) for number in range(4)])
 
     def fits(self, serving, number):
-        """Delivers a large file that does not fit, and small ones behind it. Says whether the new one of these is there."""
+        """Delivers a large file that does not fit, and small ones after it. Says whether the new one of these is there."""
         self.assertEqual(serving.answer(large(number)), FULL)
         self.assertEqual(serving.answer(get("verdicts")), NOTHING)
         reply = serving.answer(small(number))
@@ -113,7 +114,7 @@ class FullDisk(Lines):
 
 
 def under(trace, names, *more):
-    """What runs a program so that its calls of these names are written to a file, and such as are told fail."""
+    """What runs a program so that its calls of these names are written to a file, and the given ones fail."""
     return ["strace", "-f", "-qq", "-o", trace, "-e", f"trace=accept,accept4,{names}", *more]
 
 
@@ -129,7 +130,7 @@ class FailingCalls(Lines):
         self.trace = f"{room.name}/trace"
 
     def calls(self):
-        """The calls of a session in which none fails, in their order, each as its name, with `accept` between."""
+        """The calls of a session without a failure, in their order, each as its name, with `accept` between."""
         db = self.made()
         names = ",".join(self.NAMES)
         with Serving(db, len(SESSION), under=under(self.trace, names)) as serving:
@@ -140,7 +141,7 @@ class FailingCalls(Lines):
             return re.findall(r"(?m)^(?:\d+ +)?(\w+)\(", it.read().replace("accept4(", "accept("))
 
     def failures(self):
-        """Each call behind the first connection, as its name and how many of this name there are up to it."""
+        """Each call after the first connection, as its name and its number among the calls of this name."""
         seen = dict.fromkeys(self.NAMES, 0)
         connections = 0
         for name in self.calls():
@@ -152,7 +153,7 @@ class FailingCalls(Lines):
                 yield name, seen[name], connections
 
     def answered(self, serving, request, reply, also):
-        """Sends a request, and once more where it is answered 507. Answers how often it was sent."""
+        """Sends a request, and once more if it is answered 507. Answers how often it was sent."""
         found = serving.answer(request)
         if found != FULL:
             self.assertEqual(found, reply)
@@ -187,7 +188,7 @@ class FailingCalls(Lines):
         return sent - len(SESSION)
 
     def first_in_second_connection(self):
-        """The first failing call behind the second connection's beginning."""
+        """The first failing call after the beginning of the second connection."""
         return next((name, number) for name, number, connection in self.failures() if connection == 2)
 
 

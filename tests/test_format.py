@@ -1,4 +1,4 @@
-"""Tests of checks/format, on a small repository. Where there is no rt, they say that they were skipped."""
+"""Tests of checks/format, on a small repository. If there is no rt, they say that they were skipped."""
 import pathlib
 import shutil
 import subprocess

@@ -7,7 +7,7 @@ import time
 from tests.program import DATA, NAMES, PROGRAM, Lines, Serving, get, rest, seconds_since
 from tests.wants import main
 
-# The words of each command behind `--db FILE`, and what it answers where nobody has the file: status, and both outputs.
+# The words of each command after `--db FILE`, and its answer if nobody has the file: status, and both outputs.
 COMMANDS = {
     "init": (["--at", "0", "{folder}/box.conf"], (1, "", "archive: K4\n")),
     "put": (["--at", "0", f"{DATA}/{NAMES[1]}"], (0, f"again {NAMES[1]}\n", "")),

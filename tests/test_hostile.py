@@ -1,8 +1,8 @@
 """A test of `serve` among hostile clients: python3 -m tests.test_hostile [COUNT]
 
-COUNT connections (1,000 where it is not given) are cut, reset, silent, pipelined, too long or rubbish, always the same ones. Between
-them a client delivers uploads, runs the queue and looks at what is shown: each of its answers has to be right, byte for byte; each
-connection has its line in the log; and the memory of the server grows by at most 1 MiB behind the first hundred. The program is that of
+COUNT connections (1,000 if it is not given) are cut, reset, silent, pipelined, too long or rubbish, always the same ones. Between them
+a client delivers uploads, runs the queue and looks at what is shown: each of its answers has to be right, byte for byte; each
+connection has its line in the log; and the memory of the server grows by at most 1 MiB after the first hundred. The program is that of
 program.py."""
 import hashlib
 import random
@@ -115,7 +115,7 @@ def shorter(client, chance):
 
 
 def numbered(client, chance):
-    """A length that is none, or too large."""
+    """A length that is not valid, or too large."""
     length = chance.choice(("-1", "4194305", "99999999999999999999999", "x", "", "1, 2"))
     client.sendall(f"PUT /incoming/{NAME} HTTP/1.1\r\nContent-Length: {length}\r\n\r\n".encode())
     client.shutdown(socket.SHUT_WR)

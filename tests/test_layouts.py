@@ -1,5 +1,5 @@
-"""Tests of databases that no archive is opened of, and that say of which layout they are: for an older or a later one a second line tells
-it, for an older one with what reads it. The program is that of program.py."""
+"""Tests of databases from which no archive is opened, and that say which layout they have: for an older or a later one a second line says
+so, and for an older one it names what reads it. The program is that of program.py."""
 import os
 import pathlib
 import sqlite3
@@ -66,7 +66,7 @@ class Layouts(Words):
                     self.refused(told(number), command)
 
     def test_init_does_not(self):
-        """It makes an archive where nothing is, whatever the layout."""
+        """It makes an archive if there is nothing, whatever the layout."""
         for number in (PRESENT - 1, PRESENT + 1):
             with self.subTest(number):
                 self.make(number)
@@ -78,7 +78,7 @@ class Layouts(Words):
         self.refused(ALONE)
 
     def test_no_number(self):
-        """Two rows or none, and what is no number or below 1."""
+        """Two rows or none, and a value that is no number or below 1."""
         for versions in ((), (2, 2), (2, 4), ("two",), ("",), (b"2",), (2.5,), (-2,), (0,)):
             with self.subTest(versions):
                 self.make(*versions)

@@ -1,18 +1,18 @@
 """Rows on the program's command lines, over database files. Each file of rows in tests/lines is a test. Its rows are asked in their
-order, and the lines are run in a folder that is new with each file: what one leaves in files, those behind it find.
+order, and the lines are run in a folder that is new with each file: the later lines find what the earlier ones leave in files.
 
-    line WORD..            what a line prints, its errors behind a line `errors:`, and its exit status; `(no newline)` behind a text without an end
-    line-with TEXT WORD..  the same where this text is on standard input
-    cut-output N WORD..    the same where standard output takes N bytes and then fails
-    cut-errors N WORD..    the same where standard error does
+    line WORD..            what a line prints, its errors after a line `errors:`, and its exit status; `(no newline)` after a text without an end
+    line-with TEXT WORD..  what a line prints with this text on standard input
+    cut-output N WORD..    what a line prints if standard output takes N bytes and then fails
+    cut-errors N WORD..    what a line prints if standard error does so
     write NAME BODY        `written`
     read NAME              the bytes of a file
     remove NAME            `removed`
     copy-file FROM TO      `copied`
     exists NAME            `yes` or `no`
 
-What is asked of files may also be answered `not there` or `failed`. The program is that of program.py, and the same as Rattle's own
-compiler builds it, where that lies beside it."""
+Questions on files may also be answered `not there` or `failed`. The program is that of program.py, and the one that Rattle's own
+compiler builds from these sources, if that is beside it."""
 import inspect
 import os
 import pathlib
@@ -45,7 +45,7 @@ def let_files_have_most():
 
 
 def ended(text):
-    """A text, with the end of its last line, and with a line that says so where it had none."""
+    """A text, with the end of its last line, and with a line that says so if it had none."""
     return text if text.endswith(b"\n") or not text else text + b"\n(no newline)\n"
 
 
@@ -92,8 +92,8 @@ class Folder:
         return told(ran.stdout, ran.stderr, ran.returncode)
 
     def cut(self, output, room, words):
-        """What a line prints of which this output is a file that has room for so many bytes: there it has come to the most that a file
-        may have. The signal that tells of this is ignored, as Python does, and so the call alone tells it."""
+        """What a line prints if this output is a file that has room for this number of bytes: beyond that the file may not grow. The
+        signal for this is ignored, as Python does, and so only the call reports it."""
         if not room.isdigit():
             raise Unread("the second word is no number")
         with tempfile.TemporaryFile(buffering=0) as file:

@@ -10,7 +10,7 @@ from tests.wants import main, needs
 
 CHANGES, DEB, CONTROL = NAMES
 
-# A .changes of these files, each a triple of section, name and body, and the fields that the text has besides.
+# A .changes of these files, each a triple of section, name and body, and the other fields of the text.
 HEAD = """Format: 1.8
 Date: Sat, 02 Jul 2016 05:00:00 +0000
 Source: {source}

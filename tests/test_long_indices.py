@@ -1,4 +1,4 @@
-"""Tests of indices of several hundred thousand bytes, whose prints go on from those before them: over one `serve`, each Release tells
+"""Tests of indices of several hundred thousand bytes, whose prints go on from those before them: over one `serve`, each Release lists
 the sizes and digests of the indices beside it, as hashlib makes them, wherever in an index an item comes, changes or goes. The
 program is that of program.py."""
 import hashlib
@@ -25,7 +25,7 @@ def body_of(reply):
 
 
 def lines_of(release):
-    """What a Release tells of its indices: the digest and the size by the list and the path."""
+    """What a Release lists of its indices: the digest and the size by the list and the path."""
     told, title = {}, ""
     for line in release.decode().splitlines():
         found = re.fullmatch(r" ([0-9a-f]+) (\d+) (\S+)", line)

@@ -1,7 +1,7 @@
-"""Tests of archives of older layouts, which `migrate` reads: what it makes of them and what it refuses, that the older file stays as it is, and
-of a kill within it, behind which there is no archive or a whole one. The older files are made by the statements of older.py. The program is that
-of program.py. Where there is no strace, a kill comes at times alone, and where SQLite is too old for STRICT tables nothing is tried; the
-tests say that they were skipped."""
+"""Tests of archives of older layouts, which `migrate` reads: what it makes from them and what it refuses, that the older file stays as it is,
+and what a kill leaves: no archive or a whole one. The older files are made by the statements of older.py. The program is that of program.py.
+Without strace a kill comes only at random times, and if SQLite is too old for STRICT tables nothing is tried; the tests say that they were
+skipped."""
 import contextlib
 import fcntl
 import os
@@ -51,7 +51,7 @@ CHANGES = [
     "DROP TABLE dates",
     "ALTER TABLE texts RENAME COLUMN body TO bytes",
 ]
-# The same of one layout.
+# What a file of one layout may have that makes it no archive, by statements.
 ONE_OFF = {1: ["UPDATE arrivals SET body = x'616264' WHERE id = 2", "UPDATE files SET size = 4"], 2: ["UPDATE pieces SET bytes = x'616264' WHERE body = 2", "UPDATE bodies SET size = 4 WHERE id = 2", "DELETE FROM pieces WHERE body = 2"]}
 
 
@@ -85,7 +85,7 @@ class Migrations(Words):
         return str(path)
 
     def held(self):
-        """All that lies where the older file lies, byte for byte."""
+        """All files beside the older file, byte for byte."""
         return {it.name: it.read_bytes() for it in pathlib.Path(self.folder, "old").iterdir()}
 
     def migrate(self, text=BOX, at=MOVED, old=None, db=None):
@@ -426,7 +426,7 @@ class Files(Migrations):
         os.chmod(self.old, 0o444)
         os.mkdir(f"{self.folder}/own")
         os.chown(f"{self.folder}/own", nobody, nobody)
-        # The program may lie where this user can't reach it.
+        # The program may be in a place that this user can't reach.
         program = shutil.copy(PROGRAM, f"{self.folder}/archive")
         words = [program, "migrate", "--from", self.old, "--db", f"{self.folder}/own/a.db", "--at", "0", self.conf(BOX)]
         os.chmod(program, 0o555)

@@ -11,7 +11,7 @@ LINE = re.compile(r"(\d+) ([!-~]+) ([!-~]+) (\d{3}|-) (\d+) (\d+)")
 
 
 class Moments(Lines):
-    # What the file holds before each connection, and the moment that the connection has then, where `--at` is 100.
+    # What the file holds before each connection, and the moment that the connection then has, if `--at` is 100.
     SEEN = (
         (None, 100),
         (b"99\n", 100),

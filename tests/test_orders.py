@@ -1,7 +1,7 @@
-"""Tests of archives whose rows stand in another order, and have other numbers, than the program gave them: SQLite may keep a table's rows in any
-order, and no answer goes by that order or by the numbers of bodies, arrivals, uploads and items. Of arrivals the numbers keep their order, since they say
-what came first. An archive of each layout is taken with its rows shuffled, again and again, and has to answer as it does with its rows as they were
-written. With a row taken away, or one doubled, it is another archive or none: no answer is a failure of the disk. The program is that of program.py."""
+"""Tests of archives whose rows have another order, and other numbers, than the program gave them: SQLite may keep a table's rows in any order, and no
+answer depends on that order or on the numbers of bodies, arrivals, uploads and items. The numbers of arrivals keep their order, since they say what came
+first. An archive of each layout is taken with its rows shuffled, again and again, and has to answer as it does with its rows as they were written. If a
+row is taken away or doubled, it is another archive or none: no answer is a failure of the disk. The program is that of program.py."""
 import collections
 import contextlib
 import itertools
@@ -72,7 +72,7 @@ def opened(db):
 
 
 def numbers(rng, count):
-    """So many numbers, which rise, some below 0."""
+    """This number of numbers, which rise, some below 0."""
     return sorted(rng.sample(range(-1_000_000, 1_000_000), count))
 
 
@@ -177,7 +177,7 @@ class Orders(unittest.TestCase):
 
     @classmethod
     def make_older(cls, layout):
-        """The same archive in an older layout, with the wants of judged uploads, which that has still."""
+        """The archive in an older layout, with the wants of judged uploads, which that layout still has."""
         with contextlib.closing(sqlite3.connect(cls.folder / "3.db")) as held:
             rows = {table: rows_of(held, table) for table in tables_of(held)}
         pieces = collections.defaultdict(dict)

@@ -1,6 +1,7 @@
 """Tests of archives in files that hold more: tables, indexes and views of somebody else, and what ANALYZE adds. Each command is given to
-such a file and to a copy that holds the archive alone, and prints the same, also behind a VACUUM; what else there is stays as it was. And
-of what is refused, since it stands on the archive's own tables. SQLite itself makes all of it. The program is that of program.py."""
+such a file and to a copy that holds the archive alone, and prints the same, also after a VACUUM; the other contents stay as they were.
+Other tests are of what is refused, because it is on the archive's own tables. SQLite itself makes all of it. The program is that of
+program.py."""
 import glob
 import os
 import shutil
@@ -116,7 +117,7 @@ class Others(Lines):
         self.line(0, "init", self.alone, "--at", "0", f"{self.folder}/two.conf")
 
     def fill(self):
-        """Has so many uploads accepted, of which each tenth has its source, and then makes the copy."""
+        """Has this number of uploads accepted, of which each tenth has its source, and then makes the copy."""
         paths = [path for made in uploads.make(f"{self.folder}/uploads", COUNT, source_every=10) for path in made]
         self.assertEqual(self.line(0, "put", self.alone, "--at", "0", *paths).count("new "), len(paths))
         self.assertEqual(self.line(0, "run", self.alone, "--at", "0").count("accepted "), COUNT)

@@ -1,6 +1,6 @@
-"""Tests of packaging/: the manuals, which are made of the pages, and the Debian package. Where the program of program.py is built, and where one
-may mount, the package is installed in a root of its own over this machine's, in which it makes an archive, takes its own package by dput, and
-serves it to apt. Where a tool is missing they say that they were skipped."""
+"""Tests of packaging/: the manuals, which are made from the pages, and the Debian package. If the program of program.py is built, and one may
+mount, the package is installed in a root of its own over this machine's. There it makes an archive, takes its own package by dput, and serves it
+to apt. If a tool is missing they say that they were skipped."""
 import contextlib
 import gzip
 import os

@@ -28,7 +28,7 @@ class Pages(unittest.TestCase):
         cls.found = {}
 
     def other(self, check, path, text):
-        """What a check finds more where this page is another text."""
+        """What a check finds in addition if this page is another text."""
         kept = self.repository.pages[path]
         if check not in self.found:
             self.found[check] = set(check(self.repository))

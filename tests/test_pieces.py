@@ -91,7 +91,7 @@ class CutOff(Bodies):
 @needs_file("/proc/self/status")
 class Memory(Lines):
     def peak(self, body):
-        """The most memory that a fresh server has taken behind the delivery of a body, in KiB."""
+        """The most memory that a fresh server has taken after the delivery of a body, in KiB."""
         with Serving(self.made(), 2) as serving:
             self.assertEqual(serving.answer(put_of("a.deb", body)), NEW)
             with open(f"/proc/{serving.process.pid}/status", encoding="ascii") as it:

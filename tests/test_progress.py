@@ -1,6 +1,6 @@
 """Tests of progress: what comes to standard error if that is a terminal, which is one of Python's here, and that nothing comes if it is
-none. A pipe among the files holds a command up for longer than a line stands, so that a line is due behind it. The program is that of
-program.py."""
+no terminal. A pipe among the files holds a command up for longer than a line is shown, so that a line is due after it. The program is
+that of program.py."""
 import contextlib
 import errno
 import os
@@ -30,7 +30,7 @@ def lines_of(told):
 
 
 def rows_of(told):
-    """The rows that a terminal shows behind a text. A carriage return leads to the front of a row, and what follows is written over it."""
+    """The rows that a terminal shows after a text. A carriage return leads to the front of a row, and what follows is written over it."""
     rows, place = [[]], 0
     for it in told:
         if it == "\n":
@@ -98,7 +98,7 @@ class Progress(Lines):
             feeder.join()
 
     def plain(self, word, *words):
-        """What a line of the program ends with and prints on both outputs, where neither is a terminal."""
+        """The status of a line of the program, and what it prints on both outputs, if neither is a terminal."""
         with self.feeding():
             ran = subprocess.run(
                 [PROGRAM, word, "--db", self.db, *words], stdin=subprocess.DEVNULL, capture_output=True, text=True, check=False, timeout=LONG
@@ -106,7 +106,7 @@ class Progress(Lines):
         return ran.returncode, ran.stdout, ran.stderr
 
     def shown(self, word, *words, is_shared=False, is_fed=True):
-        """The same if standard error is a terminal, to which standard output may come, too."""
+        """The status and the outputs if standard error is a terminal, to which standard output may come, too."""
         own, other = pty.openpty()
         with self.feeding(is_fed):
             line, out = [PROGRAM, word, "--db", self.db, *words], other if is_shared else subprocess.PIPE
@@ -118,7 +118,7 @@ class Progress(Lines):
         return process.returncode, printed, told
 
     def test_put(self):
-        """A `put` tells how many bytes are delivered, and leaves nothing of it behind."""
+        """A `put` shows how many bytes are delivered, and leaves nothing of it afterwards."""
         status, printed, told = self.shown("put", "--at", MOMENT, *self.files)
         self.assertEqual((status, printed), (0, "new one\nnew pipe\nnew two\n"))
         self.assertEqual(lines_of(told)[0], "put: 33%, 1000 of 3000 bytes")
@@ -133,7 +133,7 @@ class Progress(Lines):
         self.assertEqual(rows_of(told), ["new one", "new pipe", "new two", ""])
 
     def test_batch(self):
-        """A `batch` tells how many lines are done. A file that can't be read has its line as ever."""
+        """A `batch` shows how many lines are done. A file that can't be read has its line as ever."""
         one, pipe, two = self.files
         path = self.listed(f"put {one}", f"put {pipe}", "run", f"put {self.folder}/none", f"put {two}")
         status, printed, told = self.shown("batch", "--at", MOMENT, path)
@@ -159,7 +159,7 @@ class Progress(Lines):
         self.assertEqual(self.plain("batch", "--at", MOMENT, path), (0, "again one\nagain pipe\nagain two\n", ""))
 
     def test_error_at_the_end(self):
-        """What ends a command is told behind the progress, not beside it."""
+        """The reason why a command ends is printed after the progress, not beside it."""
         status, printed, told = self.shown("put", "--at", MOMENT, *self.files[:2], f"{self.folder}/none")
         self.assertEqual((status, printed), (1, "new one\nnew pipe\n"))
         self.assertEqual(lines_of(told)[0], "put: 100%, 1000 of 1000 bytes")
@@ -178,7 +178,8 @@ class Progress(Lines):
         self.assertEqual((process.returncode, printed), (0, "new pipe\nnew two\n"))
 
     def test_opening(self):
-        """An opening of a large database is told while it lasts, and one of a small database is not. A line stands for a while."""
+        """An opening of a large database is shown while it lasts, and one of a small database is not. A line is shown for a
+        while."""
         self.assertEqual(self.shown("waiting", "--at", MOMENT, is_fed=False), (0, "", ""))
         paths = [f"{self.folder}/large-{number}" for number in range(MANY)]
         for path in paths:
@@ -194,7 +195,7 @@ class Progress(Lines):
         self.assertEqual((status, printed, lines_of(told), rows_of(told)), (0, "", [f"opening: {size} bytes"], [""]))
 
     def test_export(self):
-        """An export tells how many of its steps are made: each file of the pool, and the suite, which comes last. To look up a file of this
+        """An export shows how many of its steps are made: each file of the pool, and the suite, which comes last. To look up a file of this
         size takes tens of milliseconds, so that lines are due meanwhile."""
         paths = [path for upload in uploads.make(f"{self.folder}/uploads", MANY, pad=LARGEST - 10_000) for path in upload]
         self.line(0, "put", self.db, "--at", MOMENT, *paths)

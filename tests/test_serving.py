@@ -1,7 +1,7 @@
 """Tests of how `serve` begins, waits for its clients, and ends: clients that are silent or stay, a program that is killed, one that
-begins while another has the file. And of what it does not wait for: a log that nobody reads, moments in a pipe; and of who may read the
-log of a database. The program is that of program.py. Waits of more than some seconds are in test_waits.py. Some tests need strace;
-where that is not there they say that they were skipped."""
+begins while another has the file. Other tests are of what it does not wait for: a log that nobody reads, moments in a pipe; and of who
+may read the log of a database. The program is that of program.py. Waits of more than some seconds are in test_waits.py. Some tests need
+strace; if that is not there they say that they were skipped."""
 import contextlib
 import fcntl
 import os
@@ -30,7 +30,7 @@ PASSING = ["EMFILE", "ENFILE", "ENOBUFS", "ENOMEM"]
 PASSING += ["ENETDOWN", "EPROTO", "ENOPROTOOPT", "EHOSTDOWN", "ENONET", "EHOSTUNREACH", "EOPNOTSUPP", "ENETUNREACH"]
 LASTING = ["EBADF", "EINVAL", "ENOTSOCK", "EFAULT"]
 
-# The call of fcntl by which Linux is told how many bytes a pipe holds, which Python names from 3.10 on.
+# The call of fcntl that sets how many bytes a pipe holds, which Python names from 3.10 on.
 F_SETPIPE_SZ = 1031
 
 
@@ -57,7 +57,7 @@ class Deadlines(Lines):
             self.assertEqual(serving.ended(), (0, "", ""))
 
     def test_a_client_that_falls_silent_is_closed(self):
-        """In a head and in a body, beside each other: it is sent nothing, and the client behind it is answered."""
+        """In a head and in a body, beside each other: it is sent nothing, and the client after it is answered."""
         with contextlib.ExitStack() as stack:
             held = []
             for part in (get("verdicts")[:-1], put("hello_1.0-1_amd64.deb")[:-1]):
@@ -167,7 +167,7 @@ class Kills(Lines):
             self.assertEqual(self.line(0, "put", db, "--at", "0", f"{DATA}/{NAMES[1]}"), f"again {NAMES[1]}\n")
 
     def test_while_a_request_is_answered(self):
-        """A body is there whole or not at all, whenever the kill comes; and where it was answered it is there."""
+        """A body is there whole or not at all, whenever the kill comes; and if it was answered it is there."""
         db = self.made()
         room = tempfile.TemporaryDirectory()
         self.addCleanup(room.cleanup)
@@ -254,7 +254,7 @@ class Beginnings(Lines):
 class Unread(Lines):
     """A log that nobody reads: in a pipe that is full."""
 
-    # How many connections there are, with paths of so many bytes.
+    # The number of connections, and the number of bytes of their paths.
     COUNT, LONG_PATH = 24, 1000
 
     def test_lines_that_can_not_be_written_at_once_are_left_out_and_counted(self):
@@ -275,7 +275,7 @@ class Unread(Lines):
         self.expect_all(told.splitlines())
 
     def expect_all(self, lines):
-        """Expects that each connection has a line, in their order, or is counted where the lines go on."""
+        """Expects that each connection has a line, in their order, or is counted when the lines go on."""
         left_out = 0
         for line in lines:
             count = re.fullmatch(r"archive: (\d+) lines of the log were left out", line)
@@ -332,7 +332,7 @@ class Readers(Lines):
         self.assertEqual((self.mode(db), self.mode(f"{db}-wal")), (0o600, 0o600))
 
     def test_no_other_file_is_changed(self):
-        """Where the name of the log is another name of some file, the database is not opened, and the file stays as it is."""
+        """If the name of the log is another name of some file, the database is not opened, and the file stays as it is."""
         for another_name in (os.link, os.symlink):
             db = self.accepted()
             other = f"{os.path.dirname(db)}/other"

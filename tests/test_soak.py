@@ -10,7 +10,7 @@ import unittest
 from tests.program import PROGRAM, ROOT
 from tests.wants import main, needs_file
 
-# How many commands are given, and how many where something else is done, which has to be found.
+# The number of commands that are given, and the number if something else is done, which has to be found.
 COMMANDS, FEW = 3000, 1000
 
 # A program that first does something else for some of its lines. $list is the last word of the line, $folder a folder of its own.
@@ -32,7 +32,7 @@ if [ "$name" ]; then
     sed -i "0,\|/$name\$|s|^put .*/$name\$|put $folder/$name|" "$list"
 fi"""
 
-# A run of the queue before `serve` begins, and a cleaning long behind it.
+# A run of the queue before `serve` begins, and a cleaning long after it.
 RUN = "'{program}' run --db \"$3\" --at \"$5\" > /dev/null"
 CLEAN = "'{program}' clean --db \"$3\" --at 4000000000 > /dev/null"
 

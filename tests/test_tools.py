@@ -13,7 +13,7 @@ from tests import wants
 from tests.tools import ROOT, tool
 from tests.wants import main
 
-# What takes the place of apt-get: it writes its words down, and whether services may start, and makes the program of each package but `none`.
+# A stand-in for apt-get: it writes its words down, and whether services may start, and makes the program of each package but `none`.
 APT = """#!/bin/sh
 test -e {room}/policy && policy=none || policy=all
 for word in "$@"; do last=$word; done

@@ -1,5 +1,5 @@
 """Tests of bin/upload against a server that stands in for the archive: it stores what comes, and gives the verdict that a test wants. A proxy
-in front may cut connections. Where dpkg-deb is missing they say that they were skipped."""
+in front may cut connections. If dpkg-deb is missing they say that they were skipped."""
 import base64
 import collections
 import contextlib
@@ -153,7 +153,7 @@ class Server(http.server.ThreadingHTTPServer):
         self.archive = archive
 
     def handle_error(self, *_):
-        """A client that goes is none."""
+        """A client that goes is no error."""
 
 
 def reset(client):
@@ -187,7 +187,7 @@ class Answers:
 
 
 class Proxy:
-    """Hands connections on to a port, and cuts one in three: before anything is handed on, within the request, behind it, or within the reply."""
+    """Hands connections on to a port, and cuts one in three: before anything is handed on, within the request, after it, or within the reply."""
 
     def __init__(self, behind):
         self.behind, self.count, self.cuts = behind, 0, collections.Counter()
@@ -480,7 +480,7 @@ class Uploads(unittest.TestCase):
         self.assertEqual(told, f"upload: {CHANGES} has no verdict yet; trying again\n")
 
     def test_other_uploads_of_its_name(self):
-        """The verdict is that of this one, where that can be told."""
+        """The verdict is that of this upload, if it can be distinguished."""
         self.archive.verdicts = [f"refused 5 {CHANGES}\n", f"refused 3 other-{CHANGES}\n"]
         self.archive.faults["POST", "/queue/run"] = [(405, "", "always")]
         timer = threading.Timer(2, self.archive.run)
@@ -543,7 +543,7 @@ class Uploads(unittest.TestCase):
                 self.assertNotRegex(told, "[\x00-\x09\x0b-\x1f\x7f-\x9f]")
 
     def test_a_reply_that_takes_too_long(self):
-        """A byte now and then is none that is silent."""
+        """A client that gets a byte now and then does not count the server as silent."""
         def pieces():
             yield b"HTTP/1.1 200 OK\r\n"
             while True:

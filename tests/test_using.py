@@ -1,6 +1,7 @@
-"""Tests of docs/USING.md and docs/OPERATING.md that need no built program: each text that is set in there is one that a test asks for, and
-once in both, the units of systemd and the texts for nginx are right as they are there. Where systemd-analyze, nginx or openssl is not there, the
-test says that it was skipped. What they show is run by test_using_program.py, test_using_proxy.py, test_using_tree.py and test_using_words.py."""
+"""Tests of docs/USING.md and docs/OPERATING.md that need no built program: each text that is set in there is one that a test asks for, and is
+there once in both, the units of systemd and the texts for nginx are right as they are there. If systemd-analyze, nginx or openssl is not there,
+the test says that it was skipped. What they show is run by test_using_program.py, test_using_proxy.py, test_using_tree.py and
+test_using_words.py."""
 import os
 import pathlib
 import re

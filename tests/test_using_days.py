@@ -1,6 +1,6 @@
 """Tests of docs/USING.md and docs/OPERATING.md with the built program: what an administrator does on some days. A suite gets another name, an uploader
 is let in while clients wait, a suite is emptied or goes back by a whole state, and something goes for good. Each line of the pages is run by a shell as it
-is there. The program is that of program.py. Where sqlite3, dpkg-deb or diff is not there, the test says that it was skipped."""
+is there. The program is that of program.py. If sqlite3, dpkg-deb or diff is not there, the test says that it was skipped."""
 import os
 import pathlib
 import re
@@ -181,7 +181,7 @@ class Gone(Days):
         self.assertEqual(self.in_file(), 0)
         printed = self.shell(snippet("tree anew"))
         self.assertRegex(printed, r"\Ashown box \.box\.[0-9a-f]{32}\npool 1 0 0 0\ncopies/\S+/box\.db\n\Z")
-        # The archive opens, and has what it had besides.
+        # The archive opens, and has all that it had before.
         self.has(snippet("configuration"))
         self.assertEqual(self.listed("box"), ["world 1.0-1"])
         self.assertEqual(self.shell("archive verdicts --db box.db"), "accepted leaky_1.0-1_amd64.changes\naccepted world_1.0-1_amd64.changes\n")

@@ -1,6 +1,6 @@
-"""Tests of docs/USING.md and docs/OPERATING.md with the built program: what is set in there is run by a shell as it stands, with addresses of
-the test's own, and what the pages say of copies, of the file and of answers is tried. The program is that of program.py. Where curl, dput, apt-get,
-sqlite3 or dpkg-deb is not there, the test says that it was skipped."""
+"""Tests of docs/USING.md and docs/OPERATING.md with the built program: the texts that are set in there are run by a shell as they are, with
+addresses of the test's own, and what the pages say of copies, of the file and of answers is tried. The program is that of program.py. If curl,
+dput, apt-get, sqlite3 or dpkg-deb is not there, the test says that it was skipped."""
 import contextlib
 import glob
 import gzip
@@ -81,14 +81,14 @@ class Case(snippets.Case):
         self.shell(f"with_sidecars {built(self.room.folder, package)} {folder} > files")
 
     def serve(self, *words, port=None):
-        """Serves the archive, at a port that is free where none is named, and answers it."""
+        """Serves the archive, at a port that is free if none is named, and answers it."""
         port = port or free_port()
         line = ["archive", "serve", "--db", "box.db", "--at", str(int(time.time())), *words, f"127.0.0.1:{port}", "1000"]
         self.process = self.room.start(line, port=port)
         return port
 
     def wait_for(self, pattern):
-        """Waits for what a server writes behind a reply: until this pattern finds it among what programs printed. Answers all of that."""
+        """Waits for what a server writes after a reply: until this pattern finds it in what programs printed. Answers all of that."""
         end = time.monotonic() + 60
         while not re.search(pattern, self.room.read("told")):
             self.assertLess(time.monotonic(), end, self.room.read("told"))
@@ -238,7 +238,7 @@ class Rules(Case):
         again = {"ready/hello_1.0-1": "ready1.0-1/hello_1.0-1"}
         self.assertEqual(self.shell(snippet("again", again)), "new again.changes\naccepted again.changes\n")
         self.assertEqual([self.versions(it) for it in ("testing", "stable")], [["1.1-1"], []])
-        # And as it says what does where no suite has the older one.
+        # And as it says what helps if no suite has the older one.
         self.shell("archive remove --db box.db --at 1 testing hello")
         again |= {"again.changes\narchive put": "new.changes\narchive put", "again.changes\narchive run": "new.changes\narchive run"}
         self.assertEqual(self.shell(snippet("again", again)), "new new.changes\naccepted new.changes\n")
@@ -269,7 +269,7 @@ class Rules(Case):
         self.assertEqual(self.shell("archive promote --db box.db --at 1 stable previous hello; archive promote --db box.db --at 1 testing stable hello"), "0 hello\n2 hello\n")
         self.assertEqual(self.room.run("archive promote --db box.db --at 1 stable previous world")[:2], (1, "refused Q8 world\n"))
         self.shell(snippet("go back"))
-        # Where there is none before it, nothing is taken out.
+        # If there is no version to go back to, nothing is taken out.
         self.shell("archive remove --db box.db --at 1 previous hello")
         self.fails(snippet("go back"))
         self.assertEqual(self.versions("stable"), ["1.0-1"])
@@ -491,7 +491,7 @@ class Serving(Case):
         self.check_apt_gets("1.1-1")
 
     def check_apt_gets(self, version):
-        """Checks that apt gets this version of hello behind an update."""
+        """Checks that apt gets this version of hello after an update."""
         self.shell("apt-get update && apt-get download hello")
         body = pathlib.Path(self.room.work, f"hello_{version}_amd64.deb").read_bytes()
         self.assertEqual(body, pathlib.Path(self.room.folder, f"hello_{version}_amd64.deb").read_bytes())
@@ -517,7 +517,7 @@ class Serving(Case):
         self.shell("apt-get update && apt-get download hello")
 
     def systemctl(self):
-        """A systemctl that ends what serves where it is told to stop it, and notes what it was told."""
+        """A systemctl that ends what serves if it is called to stop it, and notes its words."""
         text = f'#!/bin/sh -e\necho "$*" >> systemctl.log\n[ "$1" = start ] || kill {self.process.pid}\n'
         self.room.write("bin/systemctl", text, 0o755)
 
@@ -530,7 +530,7 @@ class Serving(Case):
 
     @needs("dpkg-deb", "apt-get")
     def test_apt_sees_another_configuration(self):
-        """Behind one update, where the service is ended, configured and started as the page says."""
+        """After one update, if the service is ended, configured and started as the page says."""
         self.ready()
         self.shell('archive put --db box.db --at "$(date +%s)" $(cat files); archive run --db box.db --at "$(date +%s)"')
         port = self.serve()
@@ -719,7 +719,7 @@ class Copies(Case):
 
     @needs("sqlite3", "dpkg-deb")
     def test_the_file_is_packed(self):
-        """Behind a cleaning, by the room that it left; what the pool has is there still."""
+        """After a cleaning, by the room that it left; what the pool has is still there."""
         self.made_with_days()
         self.ready()
         self.room.write("work/large_1.0-1_amd64.deb", "large" * 200_000)

@@ -1,6 +1,6 @@
-"""Tests of docs/OPERATING.md with the built program behind nginx: the text for it as it stands in the page, with addresses and folders of the
+"""Tests of docs/OPERATING.md with the built program behind nginx: the text for it as it is in the page, with addresses and folders of the
 test's own; logins, dput over https, the signature beside the archive with apt, and the caches and mirrors of more than one machine. The
-program is that of program.py. Where a tool is not there, the test says that it was skipped."""
+program is that of program.py. If a tool is not there, the test says that it was skipped."""
 import os
 import pathlib
 import re
@@ -65,7 +65,7 @@ class Site(snippets.Room):
         return self.typed(text, PASSWORD)
 
     def sign(self):
-        """Signs the Release by the page's script, with the page's key, which is made where there is none."""
+        """Signs the Release by the page's script, with the page's key, which is made if there is none."""
         if not os.path.exists(self.keyring):
             self.ending.callback(subprocess.run, ["gpgconf", "--kill", "all"], env=self.variables, check=False)
             self.sure(snippet("key") + snippet("signed folder"))
@@ -243,7 +243,7 @@ class Proxy(unittest.TestCase):
         self.site.sign()
         self.check_installs(snippet("signed", changes))
         self.site.sure("apt-get download another")
-        # A suite that has a folder is signed, too, and one that has none is handed out as it is.
+        # A suite that has a folder is signed, too, and one that has no folder is handed out as it is.
         conf = snippet("configuration") + "".join(f"\nCodename: {it}\nArchitectures: amd64 source\nComponents: main\n" for it in ("lab", "old"))
         self.site.write("work/more.conf", conf)
         self.site.end(self.site.serving)
@@ -253,7 +253,7 @@ class Proxy(unittest.TestCase):
         self.site.sign()
         self.check_installs(snippet("signed", {**changes, "/ box main": "/ lab main"}))
         self.assertEqual([self.status(f"dists/{it}") for it in ("lab/InRelease", "old/InRelease", "old/Release")], ["200", "404", "200"])
-        # Another key is none.
+        # Another key is not accepted.
         self.site.sure("mkdir -m 700 other; GNUPGHOME=$PWD/other gpg -q --batch --passphrase '' --quick-generate-key other default sign never")
         self.site.sure("GNUPGHOME=$PWD/other gpg -q --export > other.gpg; GNUPGHOME=$PWD/other gpgconf --kill all")
         self.site.apt(snippet("signed", {**changes, KEYRING: f"{self.site.work}/other.gpg"}))

@@ -1,5 +1,5 @@
 """Tests of docs/OPERATING.md, of the tree that `archive export` makes, with the built program: what nginx hands out of it by the page's text, its
-signature with apt, and copies of it by rsync and by rclone, which are looked at after each of their steps. The program is that of program.py. Where a
+signature with apt, and copies of it by rsync and by rclone, which are looked at after each of their steps. The program is that of program.py. If a
 tool is not there, the test says that it was skipped."""
 import base64
 import hashlib
@@ -337,7 +337,7 @@ class Nginx(Case):
             self.assertEqual(status, 0, told)
             self.shell(f"curl -sS http://127.0.0.1:{behind}/queue")
             self.check_signed(url, version=f"1.0-{number}")
-        # Where nothing is to be signed, nothing is done.
+        # If nothing is to be signed, nothing is done.
         self.assertEqual(self.room.run("./sign-tree"), (0, "", ""))
 
 

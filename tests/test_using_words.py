@@ -1,5 +1,5 @@
 """Tests of docs/USING.md and docs/OPERATING.md over the built program: what `check` prints of the configuration there, what `why` prints, the keys of
-`--json`, and a tree that gpg signs. Where gpg is not there, the test says that it was skipped."""
+`--json`, and a tree that gpg signs. If gpg is not there, the test says that it was skipped."""
 import json
 import pathlib
 

@@ -16,7 +16,7 @@ NOTHING = replied("200 OK", b"")
 
 
 def send_slowly(client, request, pause):
-    """Sends a byte, and one more behind each pause, until the connection ends. Answers nothing."""
+    """Sends a byte, and one more after each pause, until the connection ends. Answers nothing."""
     with contextlib.suppress(OSError):
         for place in range(len(request)):
             client.sendall(request[place:place + 1])
@@ -25,7 +25,8 @@ def send_slowly(client, request, pause):
 
 class Waits(Lines):
     def held(self, begin, least, most, reply=b""):
-        """A client begins, and another comes behind it, which is answered between so many seconds after the first came."""
+        """A client begins, and another comes after it, which is answered between these numbers of seconds after the first
+        came."""
         with Serving(self.made(), 2) as serving, serving.connected() as client:
             start = time.monotonic()
             threading.Thread(target=begin, args=(client,), daemon=True).start()

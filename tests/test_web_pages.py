@@ -1,6 +1,6 @@
 """Tests of the pages for people: their constants as the sources of the crate `pages` have them, the pages that `archive export` writes, with
-texts that look like markup, and those pages in a browser. Where the program, its `export` or the browser is not there the tests of it
-say that they were skipped."""
+texts that look like markup, and those pages in a browser. If the program, its `export` or the browser is not there the tests of it say that
+they were skipped."""
 import base64
 import hashlib
 import html
@@ -212,7 +212,7 @@ class Exported(Tree):
 
 
 class Waits(Tree):
-    """The page of uploads where several wait: of each what lacks, in the order in which they came."""
+    """The page of uploads when several wait: for each what it lacks, in the order in which they came."""
 
     CONF = "Codename: box\nArchitectures: amd64 source\nComponents: main\nKeepDays: 2\n"
 

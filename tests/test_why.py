@@ -103,7 +103,7 @@ def judged(name, body, verdict, *names, today=None):
 
 
 def cleaned(name, body, verdict):
-    """The same where the files of the upload are there no more: nothing is named."""
+    """The line of an upload whose files are no longer there: nothing is named."""
     means, todo = SENTENCES[verdict]
     lines = [means, "its files were cleaned"] + [todo] * bool(todo)
     return told(first_of(name, body, verdict), lines), upload_of(name, body, verdict, means=means, todo=todo)

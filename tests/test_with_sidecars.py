@@ -1,6 +1,6 @@
 """Tests of with_sidecars, on uploads that they make with dpkg-deb and dpkg-buildpackage.
 
-Where there is the program of program.py, it takes the uploads.
+If the program of program.py is there, it takes the uploads.
 """
 import collections
 import contextlib
@@ -192,7 +192,7 @@ class Uploads(unittest.TestCase):
                 self.assertEqual(len(words), 3 + place)
 
     def check_accepted(self, paths, packages):
-        """Checks what the archive shows of an upload, where its program is built."""
+        """Checks what the archive shows of an upload, if its program is built."""
         if not os.path.exists(PROGRAM):
             raise missing(PROGRAM)
         tried = run(PROGRAM, "try", *paths)

@@ -1,6 +1,6 @@
-"""What tests want of the machine beside Python. Where it is not there, a test is skipped, and says what there is not: each test does it by what is
-here. Behind a module's last test a line is printed for each that was skipped. The file that SKIPPED names gets that line, too, of which
-`make test` makes its list.
+"""What tests need of the machine besides Python. If it is not there, a test is skipped, and says what is missing: each test does so by what is
+here. After a module's last test a line is printed for each that was skipped. The file that SKIPPED names gets that line, too, and `make test`
+makes its list from it.
 
 The programs come with the packages of checks/tools."""
 import os

@@ -19,7 +19,7 @@ HASHES = {"md5": hashlib.md5, "sha1": hashlib.sha1, "sha256": hashlib.sha256}
 LISTS = [("MD5Sum", "md5"), ("SHA1", "sha1"), ("SHA256", "sha256")]
 END = " HTTP/1.1\r\n\r\n"
 
-# The .changes and the sidecar of each package, whose own values stand where a word begins with @.
+# The .changes and the sidecar of each package. A word that begins with @ is replaced by the package's own value.
 CHANGES = """Format: 1.8
 Date: Sat, 02 Jul 2016 05:00:00 +0000
 Source: @package
@@ -124,7 +124,7 @@ def verdicts(count):
 
 
 class Keeper:
-    """The rows of keeper_serves, and what the archive shows behind them."""
+    """The rows of keeper_serves, and what the archive shows after them."""
 
     def __init__(self):
         self.out = []
@@ -201,7 +201,7 @@ class Keeper:
         self.dates["lab"] = moment
 
     def reopen(self):
-        """A cleaning, which takes nothing where nothing ends, and an opening anew."""
+        """A cleaning, which takes nothing if nothing ends, and an opening anew."""
         self.say("clean 1467440000 = 0\nreopen = opened\n")
 
     def show_releases(self):
@@ -275,7 +275,7 @@ def keeper_rows():
 
 
 def reply(body, length=None):
-    """The reply that is done, with a body of text; or, where its length is given, with this word."""
+    """The reply that is done, with a body of text; or, if its length is given, with this word."""
     if length is None:
         length, body = len(body), quoted(body)
     return f'$ok+"{length}"+$end+{body}'
