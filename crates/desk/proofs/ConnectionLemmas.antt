@@ -1,4 +1,4 @@
--- Connections that were served, and others behind them.
+-- Connections that were served, and others after them.
 use Rattle.std.proofs.Common.{◌≡◌, ◌≤◌, ◌+◌, ℕ, List, [], ◌∷◌, ◌++◌, Option, Some, Result, Ok, Err, refl, sym, ap, subst, ◌⊎◌, inl, inr, ◌∙◌, append-nil, length-append, arith}
 use Rattle.std.proofs.lemmas.Grind.{flat_map-append}
 use Rattle.std.proofs.lemmas.List.Elements.{All-append, All-contains, All-nil, All-weaker}
@@ -22,7 +22,7 @@ use Rattle.desk.specs.Exchange.{Course, Silent, TurnedAway, Short, Broken, Calle
 use Rattle.desk.specs.Want.{Want}
 use Rattle.desk.specs.declared.connection.Connection.{Connection}
 
--- courses of connections, and of others behind them
+-- courses of connections, and of others after them
 AllWent-append : (vs : List Visit) (courses : List Course) (ws : List Visit) (others : List Course) → AllWent vs courses → AllWent ws others → AllWent (vs ++ ws) (courses ++ others)
 AllWent-append [] [] ws others all more = more
 AllWent-append (v ∷ vs) (course ∷ courses) ws others (first, all) more = (first, AllWent-append vs courses ws others all more)
@@ -45,7 +45,7 @@ module _ {K : Type 0} (g : Ghosts K) where
   at_of moment before after Broken leaves = tt
   at_of moment before after (Called want body at outcome) leaves = leaves.0
 
-  -- where nothing happened what was kept is kept
+  -- if nothing happened, what was kept is kept
   still_kept : (h : History) (before after : K) → after ≡ before → IsKept (g.is_open before) (g.book before) h → IsKept (g.is_open after) (g.book after) h
   still_kept h before after same kept = subst (λ (k : K). IsKept (g.is_open k) (g.book k) h) (sym same) kept
 
@@ -100,7 +100,7 @@ module _ {K : Type 0} (g : Ghosts K) where
   among_front h [] ws (course ∷ courses) others left went is = absurd went
   among_front h (v ∷ vs) ws [] others left went is = absurd went
 
-  -- what is left among connections behind others, where it was not left by these
+  -- what is left among connections after others, if it was not left by these
   among_behind : (h : History) (vs ws : List Visit) (courses others : List Course) (left : Option Book) (mid : K) (P : Type 0) → AllWent vs courses
       → IsRun g.may_fail h (calls_in courses) (outcomes_in courses) (g.is_open mid) (g.book mid)
       → ((later : History) → IsKept (g.is_open mid) (g.book mid) later → IsFaithful later (calls_in others) → P ⊎ IsLeftAmong later ws others left)
@@ -143,7 +143,7 @@ module _ {K : Type 0} (g : Ghosts K) where
     run = λ h kept faithful clean. record { config = reads.lasts.config ∙ kept.config; stands = λ up. reads.same clean up ∙ kept.stands (reads.lasts.was_open clean up) };
   }
 
-  -- connections were answered, and others behind them
+  -- connections were answered, and others after them
   pub served_joined : (before mid after : K) (vs ws : List Visit) → (g.is_clean after → g.is_clean mid) → AreServed g before mid vs → AreServed g mid after ws
       → AreServed g before after (vs ++ ws)
   served_joined before mid after vs ws clean_before first rest =
@@ -170,7 +170,7 @@ module _ {K : Type 0} (g : Ghosts K) where
             ];
       }
 
-  -- the answers begin behind the book that is kept before, where that has its files
+  -- the answers begin after the book that is kept before, if it has its files
   pub served_behind : (before after : K) (vs : List Visit) (served : AreServed g before after vs) (bodies : List (List ℕ)) → HasItsFiles (g.book before) → NoCollision bodies → HasBodies bodies (g.book before)
       → ((body : List ℕ) → Contains (bodies_of (calls_in served.courses)) body → Contains bodies body) → g.is_clean after
       → IsRun g.may_fail (opened_with (g.book before)) (calls_in served.courses) (outcomes_in served.courses) (g.is_open after) (g.book after)
@@ -197,7 +197,7 @@ module _ {K : Type 0} (g : Ghosts K) where
     served = subst (AreServed g before after) (append-nil turn.visits) (served_joined before mid after turn.visits [] reads.lasts.clean turn.served (served_none mid after reads));
   }
 
-  -- others behind the first, none at an earlier moment, all of which are as this says
+  -- others after the first, at no earlier moment, all of which are as this says
   pub two_turns : (most more whole : ℕ) (One Other Fits : Visit → Type 0) (before mid after : K) → most + more ≤ whole → ((v : Visit) → One v → Fits v) → ((v : Visit) → Other v → Fits v)
       → ((v w : Visit) → One v → Other w → IsNoLater v w) → HasServed g most One before mid → HasServed g more Other mid after → HasServed g whole Fits before after
   two_turns most more whole One Other Fits before mid after within one_fits other_fits later first others = record {

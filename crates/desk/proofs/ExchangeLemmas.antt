@@ -29,7 +29,7 @@ use Rattle.desk.specs.declared.reply.Reply.{Reply}
 use Rattle.desk.proofs.RequestLemmas.{read_behind, reads_behind, received_whole}
 use Rattle.sums.specs.Lines.{most_size}
 
--- a reader that tells nothing behind some bytes told nothing before them
+-- if the bytes of a reader are unknown after some bytes, they were unknown before them
 unknown_before : (old mid : Option (List ℕ)) (front : List ℕ) → Consumes old mid front → mid ≡ None → old ≡ None
 unknown_before None mid front read is = refl
 unknown_before (Some xs) None front read is = absurd read
@@ -49,7 +49,7 @@ come_before old mid front (TurnedAway OutOfMemory) read may = absurd may
 come_before old mid front Silent read may = absurd may
 come_before old mid front (Called want body at outcome) read may = absurd may
 
--- a reader that tells its bytes gave as many as it gave
+-- a reader whose bytes are known gave as many as it gave
 unknown_of : (old new : Option (List ℕ)) (n : ℕ) (body front : List ℕ) → Consumes old new body → length body ≡ n → Consumes old new front → length front < n → old ≡ None
 unknown_of None new n body front one size other short = refl
 unknown_of (Some xs) None n body front one size other short = absurd one
@@ -57,7 +57,7 @@ unknown_of (Some xs) (Some ys) n body front one size other short =
     let sizes : length (body ++ ys) ≡ length (front ++ ys) = ap length (sym one ∙ other) in
     absurd (omega (arith, sizes, size, short, length-append body ys, length-append front ys))
 
--- what was left by a body behind a head was so by the whole
+-- what was left by a body after a head was left by the whole
 left_by : (h : History) (old mid new : Option (List ℕ)) (want : Want) (moment : ℕ) (left : Option Book) → HasHead old mid want → IsLeftBehind h mid new want moment left → IsLeftBy h old new want moment left
 left_by h old mid new want moment left head it = record {
   body = it.body;
@@ -66,7 +66,7 @@ left_by h old mid new want moment left head it = record {
 }
 
 module _ {K : Type 0} (g : Ghosts K) where
-  -- where nothing was done a crash leaves what it would have left before
+  -- if nothing was done, a crash leaves what it would have left before
   pub leaves_nothing : (before : K) (calls : List Call) (Else : History → Option Book → Type 0) → LeavesOr g before before calls Else
   leaves_nothing before calls Else h kept faithful clean left may = inl may
 
@@ -83,7 +83,7 @@ module _ {K : Type 0} (g : Ghosts K) where
     none_told course leaves = leaves_more before after [] (λ h left. MayHaveCome mid course × IsLeftBehind h mid new want moment left) (λ h left. MayHaveCome old course × ((want : Want) × IsLeftBy h old new want moment left))
         (λ h left one. (come_before old mid head.head course head.read one.0, (want, left_by h old mid new want moment left head one.1))) leaves
 
-    -- what a crash leaves behind a head it leaves of the whole
+    -- what a crash leaves after a head it leaves of the whole
     pub crash_behind : (course : Course) → HasReadBehind mid new want course → LeavesBehind g mid new want moment before after course → LeavesCourse g old new moment before after course
     crash_behind Silent read leaves = none_told Silent leaves
     crash_behind (TurnedAway e) read leaves = none_told (TurnedAway e) leaves
@@ -94,7 +94,7 @@ module _ {K : Type 0} (g : Ghosts K) where
         leaves_more before after (call_wanted other body moment ∷ []) (λ h left. IsLeftBehind h mid new other moment left) (λ h left. IsLeftBy h old new other moment left)
         (λ h left one. left_by h old mid new other moment left (subst (λ (w : Want). HasHead old mid w) (sym read.0) head) one) leaves
 
-  -- what a crash leaves of a call that was done, where the keeper is open behind it
+  -- what a crash leaves of a call that was done, if the keeper is open after it
   done_leaves : (before after : K) (call : Call) (reply : Answered) → ((k : K) (left : Option Book) → g.is_clean k → g.is_open k → g.may_leave k left → left ≡ Some (g.book k))
       → Does g before call (Ok reply) after → IsServed g after (Ok reply) → LeavesCall g before call after
   done_leaves before after call reply settled does served h kept faithful clean left may =
@@ -141,14 +141,14 @@ module _ {K : Type 0} (g : Ghosts K) where
     reply = carried.reply;
   }
 
-  -- a reader that failed behind a head
+  -- a reader that failed after a head
   pub broken_behind : (old mid new : Option (List ℕ)) (before after : K) (want : Want) (moment : ℕ) → HasHead old mid want
       → ReadsUpTo mid new (body_length want) × IsAsBefore g before after × LeavesBehind g mid new want moment before after Broken
       → ReadsBeginning old new × IsAsBefore g before after × LeavesCourse g old new moment before after Broken
   broken_behind old mid new before after want moment head cut =
       (reads_behind old mid new head.head want head.read head.first head.asked cut.0, cut.1, none_told old mid new before after want moment head Broken cut.2)
 
-  -- a call that has no body behind its head
+  -- a call that has no body after its head
   pub without_body : (old : Option (List ℕ)) (before after : K) (want : Want) (moment : ℕ) (m : Message) → body_length want ≡ 0 → IsCalled g before after want [] moment m
       → IsCarriedOut g old old before after want moment (Some m)
   without_body old before after want moment m none called = record {
@@ -172,7 +172,7 @@ module _ {K : Type 0} (g : Ghosts K) where
       reply = ap Some (sym told);
     }
 
-    -- what a crash leaves of one, as of a body behind a head
+    -- what a crash leaves of a delivery, as of a body after a head
     module _ (leaves : LeavesReceived g old new name n moment before after) where
       left_behind : (calls : List Call) (P : Type 0) → ((body : List ℕ) → Gave old new n body → P)
           → LeavesOr g before after calls (λ h left. P × IsLeftBehind h old new (delivery name n) moment left)
@@ -252,7 +252,7 @@ module _ {K : Type 0} (g : Ghosts K) where
     reply_told (Ok reply) m is carried = subst (λ (o : Option Message). IsCarriedOut g old new before after want moment o) (sym is) carried
     reply_told (Err e) m is carried = tt
 
-    -- where there is none the reader failed
+    -- if there is no reply, the reader failed
     broken : (course : Course) → reply_of course ≡ None → HasReadBehind old new want course → Leaves g moment before after course → LeavesBehind g old new want moment before after course
         → ReadsUpTo old new (body_length want) × IsAsBefore g before after × LeavesBehind g old new want moment before after Broken
     broken Silent none read leaves crash = absurd read

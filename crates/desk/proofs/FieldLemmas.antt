@@ -57,7 +57,7 @@ decoded_err escaped text e n =
 abbrev pub lengths : List (List ℕ × List ℕ) → List (List ℕ)
 lengths fields = map (λ f. f.1) (filter (is_named (codes "content-length")) fields)
 
--- what the fields give behind those that were read
+-- what the fields give after those that were read
 abbrev pub length_after : Option ℕ → List (List ℕ) → Result (Option ℕ) Refusal
 length_after None rest = one_length rest
 length_after (Some n) [] = Ok (Some n)

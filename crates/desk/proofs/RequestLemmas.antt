@@ -11,7 +11,7 @@ use Rattle.desk.specs.Exchange.{Course, Silent, TurnedAway, Short, Broken, Calle
 use Rattle.desk.specs.Incoming.{HasHead, ReadsBeginning, ReadsUpTo, IsRefused}
 use Rattle.desk.proofs.UniqueLemmas.{head_part, body_part}
 
--- what a reader that tells its bytes has left
+-- what a reader whose bytes are known has left
 abbrev pub rest_of : Option (List ℕ) → List ℕ
 rest_of None = []
 rest_of (Some ys) = ys
@@ -103,7 +103,7 @@ reads_behind old mid new head want before first asked h = record {
   used = body_part head h.front want first asked h.short;
 }
 
--- what was read of a head, and behind it
+-- what was read of a head, and after it
 pub read_behind : (old mid new : Option (List ℕ)) (want : Want) (course : Course) → HasHead old mid want → HasReadBehind mid new want course → HasRead old new course
 read_behind old mid new want Silent h behind = absurd behind
 read_behind old mid new want (TurnedAway BadRequest) h behind = received_cut old mid new h.head behind.0 want h.read h.first h.asked behind.1 behind.2 behind.3

@@ -21,7 +21,7 @@ use Rattle.matchit.specs.declared.error.InsertError.{InsertError}
 use Rattle.matchit.specs.declared.error.InsertError.TheVariants.{Conflict, InvalidParam, InvalidParamSegment, InvalidCatchAll, OutOfMemory}
 use Rattle.sums.proofs.Booleans.{both}
 
--- what was read is a route that conflicts with none of the rows
+-- what was read is a route that does not conflict with the rows
 abbrev pub Joins : {T : Type 0} → Result Scan InsertError → RowsOf (RouteOf T) → Type 0
 Joins (Ok s) rows = nearest s.pattern rows ≡ None
 Joins (Err e) rows = ⊥

@@ -162,7 +162,7 @@ module _ {K : Type 0} where
       let n2 : x ≢ 257 = λ e. grind (arith, nat_tests) in
       seek_byte (led (x ∷ w) r) b p (step_miss 256 x w r n1) (step_miss 257 x w r n2)
 
-  -- a path that begins with the bytes of all rows goes on behind them
+  -- a path that begins with the bytes of all rows goes on after them
   pub led_first : (w : List ℕ) (r : RowsOf K) (rest : List ℕ) → list_all is_byte w ≡ true → first (led w r) (w ++ rest) ≡ first r rest
   led_first [] r rest h = ap (λ x. first x rest) (led_nil r)
   led_first (x ∷ w) r rest h =
@@ -194,7 +194,7 @@ module _ {K : Type 0} where
           let n : x ≢ b = λ q. grind (arith, nat_tests) in
           some_none (sym (seek_nil 0 p) ∙ sym (ap (λ rs. first rs p) (step_miss b x w r n)) ∙ down)
 
-  -- rows of which some begin with one byte and the others with none such
+  -- rows of which some begin with a byte and the others do not
   pub first_or : (a : ℕ) (w : List ℕ) (r y : RowsOf K) (path : List ℕ) → is_byte a ≡ true → step a y ≡ [] → step 256 y ≡ [] → step 257 y ≡ []
       → first (led (a ∷ w) r ++ y) path ≡ or_else (first (led (a ∷ w) r) path) (first y path)
   unfolding seek

@@ -23,7 +23,7 @@ head_asks_one text a b (inr (none, e)) (inr (gone, f)) = e ∙ sym f
 refused_asked : {X : Type 0} (want : Want) (e : Refusal) → Ok want ≡ Err e → X
 refused_asked want e h = absurd (let no : Ok want ≡ Err e = h in grind arith)
 
--- of two beginnings of the same bytes the shorter is a beginning of the longer
+-- the shorter of two beginnings of some bytes is a beginning of the longer
 shorter_first : (bytes front r used s : List ℕ) → bytes ≡ front ++ r → bytes ≡ used ++ s → length front ≤ length used → take (length front) used ≡ front
 shorter_first bytes front r used s e f h =
     sym (take-append-le (length front) used s h) ∙ ap (take (length front)) (sym f ∙ e) ∙ take-append_seam front r
@@ -35,7 +35,7 @@ begins bytes front r used s e f h =
 contrary : {X : Type 0} → true ≡ false → X
 contrary h = absurd (let no : true ≡ false = h in grind arith)
 
--- bytes of which no beginning ends a head are no longer than a head of the same bytes
+-- bytes of which no beginning ends a head are no longer than a head at the beginning of these bytes
 pub not_past_head : (bytes front r head s : List ℕ) → bytes ≡ front ++ r → bytes ≡ head ++ s → NotEarlier front → ends_head head ≡ true → length front ≤ length head
 not_past_head bytes front r head s e f earlier ends =
     elim (cases_lt (length head) (length front)) [
@@ -188,7 +188,7 @@ outcome bytes long r = (take 8192 bytes, refused HeadTooLarge)
 outcome bytes (ends head) (Err e) = (head, refused e)
 outcome bytes (ends head) (Ok want) = with_body bytes head want (ltb (length bytes) (length head + body_length want))
 
--- what the head asks for, where it ends
+-- what the head asks for, if it ends
 abbrev Asks : Kind → Result Want Refusal → Type 0
 Asks empty r = r ≡ Err BadRequest
 Asks cut r = r ≡ Err BadRequest

@@ -35,7 +35,7 @@ wild_run (b ∷ w) t x len token at h e within =
     let j : at + length (b ∷ w) ≡ (at + 1) + length w = omega arith in
     rw (n, m, i, j) (wild_run w t x len (token + 1) (at + 1) p.1 e (omega arith))
 
--- where a walk over a route's names stands: behind some tokens and some bytes of the path
+-- the position of a walk over a route's names: after some tokens and some bytes of the path
 pub record IsAt (pattern path : List ℕ) (token at : ℕ) (tokens bytes : List ℕ) : Type 0 where
   pub tokens_left : drop token pattern ≡ tokens
   pub bytes_left : drop at path ≡ bytes
@@ -112,7 +112,7 @@ walk_cut pattern text path n names token at w t part rest h plain few s =
     ∙ ap (λ p. (name, p) ∷ walk pattern text path names (after_token (token + length w)) (at + length w + length part)) took
     ∙ ap (λ k. (name, part) ∷ walk pattern text path names k (at + length w + length part)) token_is
 
--- where the walk stands then
+-- the position of the walk then
 pub cut_on : (pattern path : List ℕ) (token at : ℕ) (w t part rest : List ℕ) → IsAt pattern path token at (w ++ 256 ∷ 47 ∷ t) (w ++ (part ++ 47 ∷ rest))
     → IsAt pattern path (token + length w + 1) (at + length w + length part) (47 ∷ t) (47 ∷ rest)
 cut_on pattern path token at w t part rest s =

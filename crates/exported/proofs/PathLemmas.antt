@@ -1,4 +1,4 @@
--- Entries of which each key leads to a file of the pool.
+-- Entries whose keys lead to files of the pool.
 use Rattle.std.proofs.Common.{◌≡◌, ◌∙◌, ◌&&◌, ℕ, Bool, true, false, List, [], ◌∷◌, ◌++◌, Result, Ok, Err, refl, ap}
 use Rattle.std.specs.Prelude.{cond, string_bytes, OnErr, OnOk}
 use Rattle.std.specs.Ordering.{match_ordering}
@@ -25,7 +25,7 @@ second_true false true h = refl
 second_true false false h = h
 
 module _ {V : Type 0} where
-  -- where one more comes, or its value is another
+  -- if an entry is added, or its value changes
   inserted_by : (order : Ordering) (e : String Global × V) (es : List (String Global × V)) (k : String Global) (v : V) (more : List (String Global × V))
       → is_pool_path (string_bytes k) ≡ true → have_pool_paths (e ∷ es) ≡ true → have_pool_paths more ≡ true
       → have_pool_paths (match_ordering order ((k, v) ∷ e ∷ es) ((e.0, v) ∷ es) (e ∷ more)) ≡ true
@@ -43,18 +43,18 @@ module _ {V : Type 0} where
   removed_by true e es more all rest = second_true _ _ all
   removed_by false e es more all rest = both _ _ (first_true _ _ all) rest
 
-  -- where one goes
+  -- if an entry is removed
   pub removed : (test : String Global → Bool) (es : List (String Global × V)) → have_pool_paths es ≡ true → have_pool_paths (remove_entry test es) ≡ true
   removed test [] all = all
   removed test (e ∷ es) all = removed_by (test e.0) e es (remove_entry test es) all (removed test es (second_true _ _ all))
 
-  -- where one came, or nothing did
+  -- if an entry was added, or nothing was
   pub inserted_or_not : {T E : Type 0} (result : Result T E) (cmp : String Global → String Global → Ordering) (es more : List (String Global × V)) (k : String Global) (v : V)
       → OnOk result (more ≡ insert_entry cmp es k v) → OnErr result (more ≡ es) → is_pool_path (string_bytes k) ≡ true → have_pool_paths es ≡ true → have_pool_paths more ≡ true
   inserted_or_not (Ok x) cmp es more k v done kept within all = ap have_pool_paths done ∙ inserted cmp es k v within all
   inserted_or_not (Err e) cmp es more k v done kept within all = ap have_pool_paths kept ∙ all
 
-  -- of one entry and others
+  -- for the first entry and the others
   pub first_within : (e : String Global × V) (es : List (String Global × V)) → have_pool_paths (e ∷ es) ≡ true → is_pool_path (string_bytes e.0) ≡ true
   first_within e es all = first_true _ _ all
 

@@ -32,7 +32,7 @@ pub configured_stands : (config : ConfigValue) (moment : ℕ) (h : History) → 
 configured_stands config moment h apart stay agreed =
     opens_itself (configured config moment (book_of h)) (configured_files config moment (book_of h) apart stay (book_of-files h agreed))
 
--- and calls go on behind it
+-- and calls go on after it
 pub configured_goes_on : (config : ConfigValue) (moment : ℕ) (h : History) (calls : List Call) → ClaimApart (book_of h).config.suites → keeps_shown config (book_of h) ≡ true
     → AreAgreed (files_of (values (book_of h).shown)) → IsFaithful h calls → IsFaithful (reopened config moment h) calls
 unfolding configured

@@ -1,4 +1,4 @@
--- An upload of which each listed file has arrived comes with its bodies.
+-- An upload whose listed files have all arrived comes with its bodies.
 use Rattle.std.proofs.Common.{◌≡◌, ◌≢◌, ℕ, Bool, true, List, [], ◌∷◌, map, zip, find, Option, Some, None, option_map, unwrap_or, Result, Ok, Err, refl, sym, ap, ◌∙◌, subst, inl, inr}
 use Rattle.std.specs.Prelude.{AllPairs, Contains, bytes_eq}
 use Rattle.std.specs.List.{list_any}

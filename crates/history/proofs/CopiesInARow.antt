@@ -25,7 +25,7 @@ use Rattle.history.proofs.Steps.{archive-push, arrived-push, book_of-followed}
 
 -- ---- a copy of nothing
 
--- what shows the same has not changed
+-- equal shelves have not changed
 nothing_changed : (suite : ℕ) (shelves : ShelvesWith BodyItem) → is_changed suite shelves shelves ≡ false
 unfolding is_changed
 nothing_changed suite shelves =
@@ -92,7 +92,7 @@ unfolding arrivals_after
 arrived_same h from to source moment outcome = arrived-push h.opening h.steps (Copying from to source moment) outcome
 
 module _ (from to : List ℕ) (moment f t : ℕ) where
-  -- the suites are there and not the same, and the moment is not too late
+  -- the suites are there and differ, and the moment is not too late
   pub record MayCopy (h : History) : Type 0 where
     pub in_time : nat_lt latest moment ≡ false
     pub first : suite_named h.opening.config from ≡ Some f
@@ -125,7 +125,7 @@ module _ (from to : List ℕ) (moment f t : ℕ) where
   one_answered : (h : History) (source : List ℕ) → MayCopy h → items_new (answer h (Copying from to source moment)) ≡ new_items h.opening.config moment f t (archive h) source
   one_answered h source may = (one_by h source may (list_any (is_shown_of f source) (entries (shown_in (archive h)))) refl).1
 
-  -- the longer history opens with the same book
+  -- the longer history opens with the book of the shorter one
   may_more : (h : History) (source : List ℕ) → MayCopy h → MayCopy (with_copy h from to moment source)
   may_more h source may = record { in_time = may.in_time; first = may.first; second = may.second; other = may.other }
 

@@ -57,7 +57,7 @@ named_fault book config from to source moment fault in_time is_config is =
     ∙ ap (λ (o : Option Fault). or_else o (source_fault book.shown (suite_named book.config from) source))
     (subst (λ c. suites_fault (suite_named c from) (suite_named c to) ≡ Some fault) is_config is)
 
--- where the suites are there it is told by whether the first shows something
+-- if the suites are there, the fault depends on whether the first shows something
 between : (book : Book) (config : ConfigValue) (shelves : ShelvesValue) (from to source : List ℕ) (moment f t : ℕ) (shows : Bool) → moment ≤ latest → config ≡ book.config → shelves ≡ book.shown
     → AreSuites config from to f t → shows_source shelves f source ≡ shows → copy_fault book from to source moment ≡ (if shows then None else Some NothingToCopy)
 between book config shelves from to source moment f t shows in_time is_config is_shown suites is =
@@ -165,7 +165,7 @@ copy_on : (old : Book) (config : ConfigValue) (shelves : ShelvesValue) (f t : �
 copy_on old config shelves f t source plan is_config is_shown copy =
     subst (λ c. IsCopy c old.shown f t source plan) is_config (subst (λ s. IsCopy config s f t source plan) is_shown copy)
 
--- what it shows stays as records tell it
+-- if records describe what it shows, they still do so afterwards
 copy_told : (now : Book) (config : ConfigValue) (shelves : ShelvesValue) (f t : ℕ) (source : List ℕ) (plan : Plan) (made : List Step)
     → config ≡ now.config → shelves ≡ now.shown → made ≡ copy_step_of plan ∷ [] → IsCopy config shelves f t source plan
     → AreTold now.config.suites now.shown → AreTold now.config.suites (shown_past now.shown made)
@@ -184,7 +184,7 @@ planned_copy moment old now config shelves after f t source plan made same is_co
   shown = copy_past old now shelves after plan made same is_shown is_steps is;
 }
 
--- A copy, where what the keeper says holds for all bodies without collision.
+-- A copy, if what the keeper says holds for all bodies without collision.
 module _ (may_fail : Bool) (h : History) (from to source : List ℕ) (moment f t : ℕ) (old now : Book) (config : ConfigValue) (shelves : ShelvesValue) (plan : Plan) (made : List Step)
     (stands : Stands old h) (faithful : IsFaithful h (Copying from to source moment ∷ [])) (in_time : moment ≤ latest)
     (same : now ≡ old) (is_shown : shelves ≡ old.shown) (is_steps : made ≡ copy_step_of plan ∷ [])

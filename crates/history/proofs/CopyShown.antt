@@ -29,7 +29,7 @@ module _ {A X : Type 0} (shows : A → X) (test : X → Bool) where
       ∙ any-append test (map shows before) (shows x ∷ behind)
       ∙ or_right (list_any test (map shows before)) (test (shows x) || list_any test behind) (or_left (test (shows x)) (list_any test behind) passed)
 
-  -- all have been shown, and none passes
+  -- all have been shown, and none of them passes
   pub none_shown : (before : List A) (rest all : List X) → rest ≡ [] → map shows before ++ rest ≡ all → list_any test (map shows before) ≡ false → list_any test all ≡ false
   none_shown before rest all e h none =
       ap (list_any test) (sym h ∙ ap (λ xs. map shows before ++ xs) e ∙ append-nil (map shows before)) ∙ none

@@ -1,4 +1,4 @@
--- The dates of suites: what a suite shows changes where a plan touches it.
+-- The dates of suites: what a suite shows changes if a plan touches it.
 use Rattle.std.proofs.Common.{◌≡◌, ◌≢◌, ◌⊎◌, ℕ, Bool, true, false, cond, not, ◌&&◌, ◌||◌, List, [], ◌∷◌, ◌++◌, map, Option, Some, None, option_map, is_some, nat_eq, refl, sym, ap, ◌∙◌, subst, inl, inr, append_assoc, append-nil}
 use Rattle.std.specs.Prelude.{Contains}
 use Rattle.std.specs.Cmp.{IsTotalOrder, tied_itself}
@@ -62,7 +62,7 @@ module _ {X : Type 0} (version : X → List ℕ) where
   abbrev pub IsHeir : X → X → Type 0
   IsHeir x y = (y ≡ x) ⊎ (is_above (version y) (version x) ≡ true)
 
-  -- where the first shelves have an item, the second have it or one of a greater version
+  -- if the first shelves have an item, the second have it or one of a greater version
   abbrev pub Grows : ShelvesWith X → ShelvesWith X → Type 0
   Grows old new = (q : ShelfKey) (x : X) → get old q ≡ Some x → (y : X) × (get new q ≡ Some y) × IsHeir x y
 
@@ -252,7 +252,7 @@ module _ (suite : ℕ) (old new : ShelvesWith BodyItem) (before after : ShelvesV
         dropped_changes e.0 e.1 ((Decides-eqb (e.0).0.suite suite).0 e.2)
   ]
 
-  -- THE SUITE shows something else exactly where the plan touches it.
+  -- THE SUITE shows something else exactly if the plan touches it.
   pub changed-touches : is_changed suite old new ≡ touches suite plan
   unfolding is_changed
   changed-touches = by_case (touches suite plan) refl

@@ -200,7 +200,7 @@ module _ (suite : ℕ) (old new : ShelvesWith BodyItem) (before after : ShelvesV
       ∙ sym (ap (λ (m : ShelvesValue). get m q) change.made) ∙ is q ∙ ap (option_map printed_item) h in
       ap (λ b. option_map printed_item (cond b (Some y) None)) (old_item q y (left_there key_order_total key_order-IsAntisymmetric before plan.dropped q (printed_item y) left))
 
-  -- where something is put nothing stays as it was
+  -- if something is put at a place, what was there does not stay as it was
   replaced : (q : ShelfKey) (p : Item) (x : BodyItem) → find key_order q plan.put ≡ Some p → get old q ≡ Some x → get after q ≢ Some (printed_item x)
   replaced q p x found h now =
       let at = find-Contains key_order_total key_order-IsAntisymmetric q plan.put p found in

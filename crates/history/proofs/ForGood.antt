@@ -1,4 +1,4 @@
--- Where the configuration has no number of days all that has arrived counts for good.
+-- If the configuration has no number of days, all that has arrived counts for good.
 use Rattle.std.proofs.Common.{◌≡◌, ◌≤◌, ◌*◌, ℕ, List, [], ◌∷◌, length, Option, None, Result, Ok, Err, if◌then◌else◌, refl, ap, ◌∙◌}
 use Rattle.std.specs.Prelude.{option_map}
 use Rattle.std.proofs.lemmas.Bool.{le-ltb}
@@ -16,7 +16,7 @@ use Rattle.history.proofs.Steps.{book_of-cleaned, book_of-refused}
 no_span : (config : ConfigValue) → config.keep_days ≡ None → span config ≡ None
 no_span config none = ap (option_map (λ (days : ℕ). days * 86400)) none
 
--- what counts for these seconds, which are none
+-- all arrivals count if there is no number of seconds
 all_current : (seconds : Option ℕ) (moment : ℕ) (arrivals : List Arrival) → seconds ≡ None → current seconds moment arrivals ≡ arrivals
 all_current seconds moment arrivals none = ap (λ (s : Option ℕ). current s moment arrivals) none ∙ current-none moment arrivals
 

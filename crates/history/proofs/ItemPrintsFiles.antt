@@ -117,7 +117,7 @@ module _ {C D : Type 0} (f : C → D) (contents : Entry → C) (other : Entry �
       } in
       ap (λ fs. Some (item fs)) (files_same u.changes component (option_to_list (package_file u.changes.entries part.0.name)) (λ e listed. same e (inl (package_entry u.changes part.0.name e listed))))
 
-  -- items of the same upload by contents that agree on its entries
+  -- items of one upload by contents that agree on its entries
   pub items-same : (u : UploadValue) (component : List ℕ) → ((e : Entry) → IsListedBy u e → f (contents e) ≡ other e)
       → map (item_with f) (items_of contents u component) ≡ items_of other u component
   unfolding items_of

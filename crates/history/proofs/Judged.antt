@@ -1,4 +1,4 @@
--- An upload has a verdict exactly where it was complete at a run that was done.
+-- An upload has a verdict exactly if it was complete at a run that was done.
 use Rattle.std.proofs.Common.{◌≡◌, ℕ, Bool, true, false, cond, not, ◌&&◌, ◌||◌, ◌==◌, List, [], ◌∷◌, ◌++◌, map, filter, fold, Option, Some, None, Result, Ok, Err, refl, sym, ap, subst, ◌∙◌}
 use Rattle.std.proofs.lemmas.Bool.{and_parts}
 use Rattle.std.specs.Prelude.{Contains, IfSome, option_to_list, bytes_eq}
@@ -90,7 +90,7 @@ twin_is c d hc hd h =
     let records : d.changes ≡ c.changes = some_same _ _ (sym hd ∙ ap (λ body. result_ok (changes_in body)) bodies ∙ hc) in
     λ i. record { name = names i; body = bodies i; changes = records i }
 
--- among bodies without collision the print tells the body
+-- among bodies without collision the print determines the body
 signed_is_twin : (bodies : List (List ℕ)) → NoCollision bodies → (c d : Candidate) → Contains bodies c.body → Contains bodies d.body → is_signed c d ≡ is_twin c d
 signed_is_twin bodies apart c d hc hd =
     ap (λ b. bytes_eq d.name c.name && b)
@@ -182,7 +182,7 @@ promotions_judge config None to sources moment a = refl
 promotions_judge config (Some from) None sources moment a = refl
 promotions_judge config (Some from) (Some to) sources moment a = copied_all_judge config moment from to (sources_in a from sources) a
 
--- of the uploads that are due, one has the name and the print of c exactly where c has come, is complete and was not judged
+-- one of the uploads that are due has the name and the print of c exactly if c has come, is complete and was not judged
 any_due : (bodies : List (List ℕ)) → NoCollision bodies → (opening : Book) (steps : List Step) (moment : ℕ) → ArrivalsHave (Contains bodies) (counting opening steps moment)
     → (c : Candidate) → IsOf (Contains bodies) c
     → list_any (is_signed c) (due_after opening steps moment)
@@ -274,7 +274,7 @@ judged_opening opening c = sym (or_no (is_judged opening.judged c))
 
 -- ---- a history
 
--- a candidate has a verdict exactly where it had one in the opening or was complete at a run that was done
+-- a candidate has a verdict exactly if it had one in the opening or was complete at a run that was done
 pub is_judged-was_judged : (bodies : List (List ℕ)) → NoCollision bodies → (h : History) → Knows (Contains bodies) h
     → (c : Candidate) → IsOf (Contains bodies) c → is_judged (archive h).judged c ≡ was_judged h.opening h.steps c
 is_judged-was_judged bodies apart h knows c hc =
@@ -304,7 +304,7 @@ pub due_known : (bodies : List (List ℕ)) → NoCollision bodies → (h : Histo
 unfolding due book_of book_from at_moment counting
 due_known bodies apart h knows moment = ap (filter (is_complete (counting h.opening h.steps moment))) (unjudged_known bodies apart h knows moment)
 
--- the same of a faithful history
+-- the uploads without a verdict in a faithful history
 pub unjudged_faithful : (h : History) (calls : List Call) → IsFaithful h calls → (moment : ℕ) → unjudged (at_moment moment (book_of h)) ≡ waiting_after h.opening h.steps moment
 unjudged_faithful h calls faithful moment =
     let all = with_empty h calls faithful in

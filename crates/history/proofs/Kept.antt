@@ -1,4 +1,4 @@
--- What is kept behind a call that changes nothing, and what the keeper was before one that it served.
+-- What is kept after a call that changes nothing, and what the keeper was before one that it served.
 use Rattle.std.specs.Prelude.{◌≡◌, ℕ, refl}
 use Rattle.std.proofs.Common.{ap, ◌∙◌}
 use Rattle.keep.specs.Book.{Book}
@@ -15,7 +15,8 @@ stands_config book h stands = ap (λ (b : Book). b.config) stands
 pub stands_kept : (is_open : Type 0) (book : Book) (h : History) → Stands book h → IsKept is_open book h
 stands_kept is_open book h stands = record { config = stands_config book h stands; stands = λ _. stands }
 
--- A call that changes nothing: the configuration stays, and a keeper that is open was open and has the same book.
+-- A call that changes nothing: the configuration stays, and a keeper that is open was open and has the book that
+-- it had.
 pub record IsSame (open_before open_after : Type 0) (old new : Book) : Type 0 where
   pub config : new.config ≡ old.config
   pub was_open : open_after → open_before

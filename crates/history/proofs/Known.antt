@@ -270,7 +270,7 @@ acts_have K empty' opening steps (WaitingList moment) outcome h = tt
 acts_have K empty' opening steps (Cleaning moment) outcome h = tt
 acts_have K empty' opening steps VerdictList outcome h = tt
 
--- the bodies of the opening and of the calls so far are among these, and so is the empty one
+-- the bodies of the opening and of the calls so far are among these, and so is the empty body
 pub record Knows (K : List ℕ → Type 0) (h : History) : Type 0 where
   pub nothing : K []
   pub arrivals : ArrivalsHave K h.opening.arrivals
@@ -329,7 +329,7 @@ knows_book bodies h knows = record {
   files = λ path body is. at_some (Contains bodies) (get (pool_in (archive h)) path) body (pool_has (Contains bodies) (archive h) (archive_has (Contains bodies) h knows) path) is;
 }
 
--- the bodies of the book of a faithful history are known, where the empty body is among those that are
+-- the bodies of the book of a faithful history are known, if the empty body is among those that are
 pub faithful_book : (h : History) (calls : List Call) (faithful : IsFaithful h calls) → Contains faithful.bodies [] → HasBodies faithful.bodies (book_of h)
 faithful_book h calls faithful there = knows_book faithful.bodies h (faithful_knows h calls faithful there)
 

@@ -58,7 +58,7 @@ fresh_opening config moment bodies = record {
   whole = fresh_stands config moment;
 }
 
--- of a history that opens with it, where no two bodies of the calls to come have one print
+-- calls of a history that opens with it are faithful, if no two bodies of these calls have one print
 pub faithful_anew : (config : ConfigValue) (moment : ℕ) (calls : List Call) → NoCollision (bodies_of calls) → IsFaithful (opened_with (fresh_book config moment)) calls
 faithful_anew config moment calls apart = record {
   bodies = bodies_of calls;

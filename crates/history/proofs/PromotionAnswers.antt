@@ -123,7 +123,7 @@ copied_on old config shelves f t names sources steps is_config is_shown is_names
     (subst (λ (c : ConfigValue). AreCopied c f t shelves (sources_from shelves f sources) steps) is_config
     (subst (λ (ns : List (List ℕ)). AreCopied config f t shelves ns steps) is_names copied))
 
--- what the copies leave stays as records tell it
+-- if records describe what is shown, they still do so after the copies
 abbrev pub StaysCopied : ConfigValue → ShelvesValue → ℕ → ℕ → List (List ℕ) → Type 0
 StaysCopied config shelves f t sources = AreTold config.suites shelves → AreTold config.suites (after_copies config f t shelves sources)
 
@@ -149,7 +149,7 @@ planned_promotion moment old now config shelves after f t sources steps made sam
       shown = promotion_past old now config shelves after f t sources steps made same is_shown is_steps copied is;
     }
 
--- A promotion, where what the keeper says holds for all bodies without collision.
+-- A promotion, if what the keeper says holds for all bodies without collision.
 module _ (may_fail : Bool) (h : History) (from to : List ℕ) (sources : Option (List (List ℕ))) (moment f t : ℕ) (old now : Book) (config : ConfigValue) (shelves : ShelvesValue) (names : List (List ℕ)) (steps made : List Step)
     (stands : Stands old h) (faithful : IsFaithful h (Promoting from to sources moment ∷ [])) (in_time : moment ≤ latest)
     (same : now ≡ old) (is_shown : shelves ≡ old.shown) (is_steps : made ≡ steps)

@@ -1,4 +1,4 @@
--- The shelves of a suite in groups, and that a copy to another suite changes none of them.
+-- The shelves of a suite in groups. A copy to another suite changes none of them.
 use Rattle.std.proofs.Common.{◌≡◌, ◌≢◌, ◌==◌, ℕ, Bool, true, false, cond, not, ◌&&◌, ◌||◌, List, [], ◌∷◌, ◌++◌, map, filter, length, Option, Some, None, option_and_then, option_to_list, slice_get, nat_eq, bytes_eq, refl, sym, ap, ◌∙◌, append-nil, arith, String, Global, true≢false}
 use Rattle.std.specs.Prelude.{Contains, T}
 use Rattle.std.specs.BTreeMap.{BTreeMap, UpdatesBy, get_by_text}
@@ -74,7 +74,7 @@ key-push suite source done e =
 
 -- ---- what is shown
 
--- there is a shelf where the suite shows an item of the source package
+-- there is a shelf if the suite shows an item of the source package
 pub shown_by_shelves : (m : ShelvesValue) (from : ℕ) (source : List ℕ) → not (length (shelves_of m from source) == 0) ≡ shows_source m from source
 unfolding shelves_of is_of_source shows_source is_item_of
 shown_by_shelves m from source = some_of (λ (e : ShelfKey × Item). nat_eq e.0.suite from && bytes_eq e.1.source source) (entries m)
@@ -99,7 +99,7 @@ copied_suite config m from to source e at =
     let x = from_map (λ (a : ShelfKey × Item). standing to a.1) e (filter (is_copied from source t.0) (entries m)) t.2 in
     ap (λ (y : ShelfKey × Item). y.0.suite) (sym x.2)
 
--- so the shelves of other suites stay
+-- so the shelves of other suites stay as they are
 elsewhere : (config : ConfigValue) (m : ShelvesValue) (from to : ℕ) (source : List ℕ) (k : ShelfKey) → k.suite ≢ to → get (after_copy config m from to source) k ≡ get m k
 elsewhere config m from to source k other =
     shown_elsewhere version_of to (entries m) (copied config m from to source) (copied_suite config m from to source) k other

@@ -90,7 +90,7 @@ module _ (config : ConfigValue) (from to : ℕ) where
   copies_are_steps shelves (s ∷ ss) (t ∷ ts) are =
       ((after_copy config shelves from to s, are.0.plan), subst (λ now. AreSteps now ts) are.0.plan.items.made (copies_are_steps (after_copy config shelves from to s) ss ts are.1))
 
-  -- none of them judges
+  -- no step of a copy judges
   pub copies_judge_none : (shelves : ShelvesValue) (sources : List (List ℕ)) (steps : List Step) → AreCopied config from to shelves sources steps → judgements steps ≡ []
   copies_judge_none shelves [] [] are = refl
   copies_judge_none shelves [] (t ∷ ts) are = absurd are

@@ -56,7 +56,7 @@ pub too_long : (name body : List ℕ) (moment : ℕ) → is_file_name name ≡ t
 unfolding delivery_fault record_fault
 too_long name body moment is changes small long = rw (is, le-ltb most_size (length body) small, changes, long_record body long) refl
 
--- whatever body of this size comes may be kept under a name that is none of a .changes
+-- any body of this size may be kept under a name that is not that of a .changes
 pub may_be_kept : (name : List ℕ) (n : ℕ) → is_file_name name ≡ true → is_changes_name name ≡ false → n ≤ most_size → MayBeKept name n
 may_be_kept name n is plain small body size = record { file_name = is; small = omega (arith, size, small); a_record = λ changes. absurd (no_both (is_changes_name name) changes plain) }
   where
@@ -101,14 +101,14 @@ given_first body rest given None gave = absurd gave.0
 given_first body rest given (Some more) gave =
     sym (take_at given more (length body) gave.1) ∙ ap (take (length body)) (sym gave.0) ∙ take_at body rest (length body) refl
 
--- none was given where there were too few bytes
+-- no body was given if there were too few bytes
 pub none_given : (given : List ℕ) (gives : Option (List ℕ)) (n : ℕ) (body : List ℕ) → length given < n → Gave (Some given) gives n body → ⊥
 none_given given None n body few gave = gave.0
 none_given given (Some more) n body few gave =
     let sizes : length given ≡ length body + length more = ap length gave.0 ∙ length-append body more in
     omega (arith, sizes, gave.1, few)
 
--- of a body that was given a crash left the book that the history leaves with it behind it
+-- a crash left the book that the history leaves after the delivery of a body that was given
 pub left_given : (h : History) (name body rest : List ℕ) (gives : Option (List ℕ)) (moment : ℕ) (left : Option Book)
     → IsLeftBy h (Some (body ++ rest)) gives name (length body) moment left → IsFaithful h (Delivery name body moment ∷ [])
     → left ≡ Some (book_of (followed h (Delivery name body moment) (answer h (Delivery name body moment))))
@@ -124,7 +124,7 @@ module _ {K : Type 0} (g : Ghosts K) (old new : Option (List ℕ)) (name : List 
   pub as_it_was : (k : K) → IsAsBefore g k k
   as_it_was k h kept clean = kept
 
-  -- a refused delivery is a step of its own, where what was kept is kept still
+  -- a refused delivery is a step of its own, if what was kept is still kept
   pub refused_does : (before after : K) (body : List ℕ) (fault : Fault) → delivery_fault name body moment ≡ Some fault → IsAsBefore g before after
       → Does g before (Delivery name body moment) (Err fault) after
   refused_does before after body fault is same h kept faithful clean =

@@ -46,7 +46,7 @@ unknown_fault book config suite name moment fault in_time is_config is =
     ∙ ap (λ (o : Option Fault). or_else o (package_fault book.shown (suite_named book.config suite) name))
     (subst (λ c. suite_fault (suite_named c suite) ≡ Some fault) is_config is)
 
--- where the suite is there it is told by whether it shows something
+-- if the suite is there, the fault depends on whether it shows something
 shown_fault : (book : Book) (config : ConfigValue) (shelves : ShelvesValue) (suite name : List ℕ) (moment place : ℕ) (shows : Bool) → moment ≤ latest → config ≡ book.config → shelves ≡ book.shown
     → suite_named config suite ≡ Some place → shows_package shelves place name ≡ shows → removal_fault book suite name moment ≡ (if shows then None else Some NothingToRemove)
 shown_fault book config shelves suite name moment place shows in_time is_config is_shown named is =
@@ -144,7 +144,7 @@ removal_past old now shelves after plan made same is_shown is_steps is =
 removal_on : (now : Book) (shelves : ShelvesValue) (place : ℕ) (name : List ℕ) (plan : Plan) → shelves ≡ now.shown → IsRemoval shelves place name plan → IsRemoval now.shown place name plan
 removal_on now shelves place name plan is_shown removal = subst (λ s. IsRemoval s place name plan) is_shown removal
 
--- what it shows stays as records tell it
+-- if records describe what it shows, they still do so afterwards
 removal_told : (now : Book) (shelves : ShelvesValue) (place : ℕ) (name : List ℕ) (plan : Plan) (made : List Step)
     → shelves ≡ now.shown → made ≡ removal_step_of plan ∷ [] → IsRemoval shelves place name plan
     → AreTold now.config.suites now.shown → AreTold now.config.suites (shown_past now.shown made)
@@ -163,7 +163,7 @@ planned_removal moment old now shelves after place name plan made same is_shown 
   shown = removal_past old now shelves after plan made same is_shown is_steps is;
 }
 
--- A removal, where what the keeper says holds for all bodies without collision.
+-- A removal, if what the keeper says holds for all bodies without collision.
 module _ (may_fail : Bool) (h : History) (suite name : List ℕ) (moment place : ℕ) (old now : Book) (shelves : ShelvesValue) (plan : Plan) (made : List Step)
     (stands : Stands old h) (faithful : IsFaithful h (Removing suite name moment ∷ [])) (in_time : moment ≤ latest)
     (same : now ≡ old) (is_shown : shelves ≡ old.shown) (is_steps : made ≡ removal_step_of plan ∷ [])

@@ -27,7 +27,7 @@ use Rattle.history.proofs.ContentsMaps.{Contains-found, find-Contains}
 use Rattle.history.proofs.Known.{apart_with_empty, known}
 use Rattle.history.proofs.PoolPrints.{get-pool}
 
--- the body that a book has at a path, none being no bytes
+-- the body that a book has at a path; if it has none, no bytes
 abbrev body_in : Book → List ℕ → List ℕ
 body_in book path = unwrap_or (book.files path) []
 
@@ -47,7 +47,7 @@ file_within (j ∷ items) i f at k = elim (which j i items at) [
   | inr rest ↦ Contains-append_right (map pair_of j.files) (files_of items) (pair_of f) (file_within items i f rest k)
 ]
 
--- the same files, where they have the same prints and are bodies of these
+-- two files are equal, if they have equal prints and are bodies of these
 same_files : (o p : Option (List ℕ)) → option_map print_of o ≡ option_map print_of p → ((body : List ℕ) → o ≡ Some body → body ≡ unwrap_or p []) → p ≡ o
 same_files None None e h = refl
 same_files None (Some b) e h = cc
@@ -80,7 +80,7 @@ module _ (book : Book) (its : HasItsFiles book) where
       let first : file_of (file_with print_of (whole_file book f)) ≡ f = ap (λ p. record f { print = p }) (h f (here f fs)) in
       ap₂ (λ (x : PoolFile) (xs : List PoolFile). x ∷ xs) first (files_back fs (λ g k. h g (there f g fs k)))
 
-  -- by prints an entry is what it was
+  -- by prints an entry is what it was before
   entry_back : (e : ShelfKey × Item) → Contains (entries book.shown) e → printed (whole_entry book e) ≡ e
   unfolding with_bodies
   entry_back e at = ap (λ (fs : List PoolFile). (e.0, record e.1 { files = fs })) (files_back e.1.files (has_print e at))

@@ -39,7 +39,7 @@ no_map : {X Y : Type 0} (f : X → Y) (xs : List X) → map f xs ≡ [] → xs �
 no_map f [] is = refl
 no_map f (x ∷ xs) is = cc
 
--- where the keeper has no complete upload nothing is due
+-- if the keeper has no complete upload, nothing is due
 nothing_due : (h : History) (moment : ℕ) (old : Book) (us : List UploadValue) → Stands old h → IsFaithful h (QueueRun moment ∷ []) → us ≡ []
     → map sign_in us ≡ map sign_of (due (at_moment moment old)) → due_after h.opening h.steps moment ≡ []
 nothing_due h moment old us stands faithful none signs =
@@ -61,7 +61,7 @@ unfolding arrivals_after acts_of
 idle_book h moment reply none =
     book_of-idle h (QueueRun moment) (Ok reply) refl (ap (map (λ c. Whole (whole_of (counting h.opening h.steps moment) c) moment)) none)
 
--- A run that is done where nothing is due: the book is the old one, and there is no line.
+-- A run that is done when nothing is due: the book is the old one, and there is no line.
 pub idle_step : (may_fail : Bool) (h : History) (moment : ℕ) (old : Book) (us : List UploadValue) → Stands old h → IsFaithful h (QueueRun moment ∷ []) → moment ≤ latest
     → us ≡ [] → map sign_in us ≡ map sign_of (due (at_moment moment old))
     → (is_open : Type 0) (new : Book) (lines : List (List ℕ)) → new ≡ old → lines ≡ [] → IsStep may_fail h (QueueRun moment) (Ok (Lines lines)) is_open new
@@ -81,14 +81,14 @@ judged_on book config shelves us them steps is_config is_shown is_us judged =
     subst (λ c. AreJudged c book.shown us steps) is_config
     (subst (λ s. AreJudged config s us steps) is_shown (subst (λ xs. AreJudged config shelves xs steps) is_us judged))
 
--- and leave what it shows as records tell it
+-- if records describe what is shown, they still do so afterwards
 stays_on : (book : Book) (config : ConfigValue) (shelves : ShelvesValue) (us them : List UploadValue)
     → config ≡ book.config → shelves ≡ book.shown → them ≡ us → StaysTold config shelves them → StaysTold book.config book.shown us
 stays_on book config shelves us them is_config is_shown is_us stays =
     subst (λ c. StaysTold c book.shown us) is_config
     (subst (λ s. StaysTold config s us) is_shown (subst (StaysTold config shelves) is_us stays))
 
--- The steps of a run are planned, where the keeper's uploads have the names and the prints of those that are due at its moment.
+-- The steps of a run are planned, if the keeper's uploads have the names and the prints of those that are due at its moment.
 pub planned_run : (moment : ℕ) (old now : Book) (config : ConfigValue) (shelves after : ShelvesValue) (us them : List UploadValue) (steps made : List Step)
     → now ≡ old → config ≡ now.config → shelves ≡ now.shown → them ≡ us → made ≡ steps
     → map sign_in us ≡ map sign_of (due (at_moment moment old)) → AreJudged config shelves them steps → StaysTold config shelves them
@@ -101,7 +101,7 @@ planned_run moment old now config shelves after us them steps made same is_confi
     (is ∙ ap (after_uploads config shelves) is_us ∙ ap (λ (s : ShelvesValue). after_uploads config s us) is_shown ∙ ap (λ (c : ConfigValue). after_uploads c now.shown us) is_config)
     (stays_on now config shelves us them is_config is_shown is_us stays)
 
--- A run, where what the keeper says holds for all bodies without collision.
+-- A run, if what the keeper says holds for all bodies without collision.
 module _ (may_fail : Bool) (h : History) (moment : ℕ) (old now : Book) (config : ConfigValue) (shelves : ShelvesValue) (us them : List UploadValue) (steps made : List Step)
     (stands : Stands old h) (faithful : IsFaithful h (QueueRun moment ∷ [])) (in_time : moment ≤ latest)
     (same : now ≡ old) (is_config : config ≡ now.config) (is_shown : shelves ≡ now.shown) (is_us : them ≡ us) (is_steps : made ≡ steps)

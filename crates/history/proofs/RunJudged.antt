@@ -26,7 +26,7 @@ judged-push config shelves (v ∷ vs) (s ∷ ss) u step are is = (are.0, judged-
 abbrev pub sign_in : UploadValue → List ℕ × Print
 sign_in u = (u.name, u.print)
 
--- the judgements of the steps, where the first is that of an upload
+-- the judgements of the steps, if the first is that of an upload
 first_judged : (step : Step) (steps : List Step) (j : Judgement) → step.judgement ≡ Some j → judgements (step ∷ steps) ≡ j ∷ judgements steps
 first_judged step steps j is = ap (λ o. cons_option o (judgements steps)) is
 
@@ -61,7 +61,7 @@ past_uploads config shelves (u ∷ us) [] are = absurd are
 past_uploads config shelves (u ∷ us) (s ∷ ss) are =
     past_uploads config (after_upload config shelves u) us ss are.1 ∙ ap (λ (m : ShelvesValue). shown_past m ss) are.0.plan.items.made
 
--- what is shown stays as records tell it through these uploads
+-- if records describe what is shown, they still do so through these uploads
 abbrev pub StaysTold : ConfigValue → ShelvesValue → List UploadValue → Type 0
 StaysTold config shelves us = AreTold config.suites shelves → AreTold config.suites (after_uploads config shelves us)
 

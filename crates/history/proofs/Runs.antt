@@ -1,4 +1,4 @@
--- Lists of calls, one behind the other.
+-- Lists of calls, one after the other.
 use Rattle.std.specs.Prelude.{◌≡◌, ◌⊎◌, ℕ, List, [], ◌∷◌, ◌++◌, Option, Some, Result, Contains}
 use Rattle.std.proofs.Common.{ap, sym, subst, ◌∙◌, append_assoc, inl, inr}
 use Rattle.std.proofs.lemmas.List.{map-append}
@@ -36,14 +36,14 @@ IsFaithful-rest h call outcome calls faithful =
       delivered = λ body there. faithful.delivered body (subst (λ (cs : List Call). Contains (bodies_of cs) body) (sym regrouped) there);
     }
 
--- the last of outcomes is the one that comes behind them
+-- the last of outcomes is the one that comes after them
 pub served_last : {K : Type 0} (g : Ghosts K) (k : K) (outcomes : List (Result Reply Fault)) (last : Result Reply Fault) → IsServed g k last → IsServedLast g k (outcomes ++ last ∷ [])
 served_last g k [] last served = served
 served_last g k (one ∷ []) last served = served
 served_last g k (one ∷ two ∷ rest) last served = served_last g k (two ∷ rest) last served
 
 module _ {K : Type 0} (g : Ghosts K) where
-  -- a run, and calls behind it that are a run behind each history whose book is then kept
+  -- a run, and calls after it that are a run after each history whose book is then kept
   pub IsRun-append : (h : History) (calls more : List Call) (outcomes others : List (Result Reply Fault)) (mid after : K)
       → IsRun g.may_fail h calls outcomes (g.is_open mid) (g.book mid)
       → ((later : History) → IsKept (g.is_open mid) (g.book mid) later → IsFaithful later more → IsRun g.may_fail later more others (g.is_open after) (g.book after))
@@ -58,7 +58,7 @@ module _ {K : Type 0} (g : Ghosts K) where
   pub does_none : (k : K) → DoesAll g k [] [] k
   does_none k h kept faithful clean = kept
 
-  -- calls are made, and others behind them
+  -- calls are made, and others after them
   pub does_append : (before mid after : K) (calls more : List Call) (outcomes others : List (Result Reply Fault)) → (g.is_clean after → g.is_clean mid)
       → DoesAll g before calls outcomes mid → DoesAll g mid more others after → DoesAll g before (calls ++ more) (outcomes ++ others) after
   does_append before mid after calls more outcomes others cleans first rest h kept faithful clean =
@@ -88,7 +88,7 @@ module _ {K : Type 0} (g : Ghosts K) where
   left_front h [] more (o ∷ os) others left mid run is = absurd run
   left_front h (c ∷ cs) more [] others left mid run is = absurd run
 
-  -- what is left along calls behind others, where it was not left by these
+  -- what is left along calls after others, if it was not left by these
   pub left_behind : (h : History) (calls more : List Call) (outcomes others : List (Result Reply Fault)) (left : Option Book) (mid : K) (P : Type 0)
       → IsRun g.may_fail h calls outcomes (g.is_open mid) (g.book mid)
       → ((later : History) → IsKept (g.is_open mid) (g.book mid) later → IsFaithful later more → P ⊎ IsLeftAlong later more others left)
@@ -119,7 +119,7 @@ module _ {K : Type 0} (g : Ghosts K) where
   pub leaves_read : (before after : K) (call : Call) → Reads g before after → LeavesCall g before call after
   leaves_read before after call reads h kept faithful clean left may = inl (reads.crash clean left may)
 
-  -- what a crash leaves during no calls, during one, and during calls and others behind them
+  -- what a crash leaves during no calls, during one, and during calls and others after them
   pub leaves_none : (k : K) → LeavesRun g k [] [] k
   leaves_none k h kept faithful clean left may = inl may
 

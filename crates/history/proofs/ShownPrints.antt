@@ -64,7 +64,7 @@ get-printed xs q =
     ap (λ es. get (from_entries {R = key_order} es) q) (held-printed xs)
     ∙ get-map key_order printed_item key_order_total (held (covers version_with) (beats version_with) xs) q
 
--- ---- the same of the archive
+-- ---- what the archive shows
 
 pub entries-shown_by_print : (a : PlainArchive) → entries (shown_by_print a) ≡ map printed (entries (shown_in a))
 unfolding shown_by_print

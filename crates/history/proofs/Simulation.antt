@@ -1,4 +1,4 @@
--- Uploads judged by prints on what the book shows, and handed whole to the plain archive: the same.
+-- Uploads judged by prints on what the book shows equal uploads handed whole to the plain archive.
 use Rattle.std.proofs.Common.{◌≡◌, ℕ, List, [], ◌∷◌, ◌++◌, map, fold, Option, Some, refl, sym, ap, ◌∙◌, subst, append_assoc, append-nil}
 use Rattle.std.specs.Prelude.{⊤}
 use Rattle.keep.specs.Book.{dates_after, dates_past, judgements, shown_past}

@@ -1,4 +1,4 @@
--- A copy by prints on what the book shows, and in the plain archive: the same.
+-- A copy by prints on what the book shows equals one in the plain archive.
 use Rattle.std.proofs.Common.{◌≡◌, ℕ, Bool, true, false, cond, ◌&&◌, ◌||◌, List, [], ◌∷◌, ◌++◌, map, filter, flat_map, length, Option, Some, None, option_map, option_to_list, slice_get, fold, nat_eq, nat_lt, Ok, refl, sym, ap, ◌∙◌, subst, append-nil}
 use Rattle.std.specs.Prelude.{Contains, bytes_eq}
 use Rattle.std.specs.FinMap.{entries, get, values}
@@ -158,7 +158,7 @@ module _ (config : ConfigValue) (moment : ℕ) (a : PlainArchive) (from to : ℕ
       bodies-simulated bodies config arrivals a (copied config moment a from to source) (steps_at moment (copy_step_of plan ∷ [])) apart known_from made
       (copied_stored arrivals config moment a from to source (shown_stored bodies arrivals a apart made agreed)) copied-simulated
 
-  -- as many items are new as the plan puts
+  -- the number of new items is the number that the plan puts
   pub copied-count : count_of_new to a (copied config moment a from to source) ≡ length plan.put
   unfolding count_of_new with_admitted
   copied-count =

@@ -57,7 +57,7 @@ file_in (j ∷ items) i file at k = elim (which j i items at) [
   | inr rest ↦ Contains-append_right (map (λ f. (f.path, f.contents)) j.files) (files_with items) (file.path, file.contents) (file_in items i file rest k)
 ]
 
--- where the shown items agree on the contents at each path
+-- if the shown items agree on the contents at each path
 pub shown_stored : (bodies : List (List ℕ)) (arrivals : List Arrival) (a : PlainArchive) → NoCollision bodies → AreMadeOf bodies a.admitted → AreAgreed (files_of (values (shown_by_print a)))
     → AreStored arrivals a (entries (shown_in a))
 shown_stored bodies arrivals a apart made agreed e at file k =
@@ -173,7 +173,7 @@ showing : (book : Book) (b : PlainArchive) (path : List ℕ) (held : Option (Lis
 showing book b path None h there = refl
 showing book b path (Some body) h there = there body refl
 
--- The files of the book where the suites show what the archive shows are those of its pool.
+-- If the suites show what the archive shows, the files of the book are those of its pool.
 pub files-showing : (bodies : List (List ℕ)) (config : ConfigValue) (arrivals : List Arrival) (a b : PlainArchive) → NoCollision bodies → AreFrom bodies arrivals → AreMadeOf bodies a.admitted
     → AreStored arrivals a (entries (shown_in b)) → (path : List ℕ) → files_showing (book_from config arrivals a) (shown_by_print b) path ≡ get (pool_in b) path
 files-showing bodies config arrivals a b apart from made kept path =

@@ -1,4 +1,4 @@
--- A promotion by prints on what the book shows, and in the plain archive: the same.
+-- A promotion by prints on what the book shows equals one in the plain archive.
 use Rattle.std.proofs.Common.{◌≡◌, ℕ, Bool, false, List, [], ◌∷◌, ◌++◌, map, filter, fold, Option, Some, None, nat_eq, nat_lt, Ok, refl, sym, ap, ◌∙◌, subst, append-nil, if◌then◌else◌}
 use Rattle.std.specs.Prelude.{Contains}
 use Rattle.std.specs.FinMap.{entries, values}
@@ -40,7 +40,7 @@ shows-printed : (a : PlainArchive) (from : ℕ) (source : List ℕ) → shows_so
 unfolding shows_source is_item_of
 shows-printed a from source = shown_of-printed a from source
 
--- those of which a suite shows an item, by prints
+-- the source packages of which a suite shows an item, by prints
 sources-printed : (a : PlainArchive) (from : ℕ) → sources_on (shown_by_print a) from ≡ sources_shown a from
 unfolding sources_on sources_shown
 sources-printed a from =
@@ -80,7 +80,7 @@ module _ (config : ConfigValue) (moment from to : ℕ) where
     sound = ((plans.after_copy config (shown_by_print a) from to source, on.plan), subst (λ shown. AreSteps shown steps) (sym (shown_next a source step on)) more.sound);
   }
 
-  -- the steps behind the first, on what that leaves
+  -- the steps after the first, on what the first leaves
   on_next : (a : PlainArchive) (source : List ℕ) (rest : List (List ℕ)) (steps : List Step) → AreCopied config from to (plans.after_copy config (shown_by_print a) from to source) rest steps
       → AreCopied config from to (shown_by_print (next a source)) rest steps
   on_next a source rest steps on = subst (λ (shown : ShelvesValue). AreCopied config from to shown rest steps) (sym (shown-copied config moment a from to source)) on
@@ -92,7 +92,7 @@ module _ (config : ConfigValue) (moment from to : ℕ) where
   copies-simulated a (source ∷ rest) (step ∷ steps) on =
       step-simulated a source rest step steps on.0 (copies-simulated (next a source) rest steps (on_next a source rest steps on.1))
 
-  -- as many items are new as the step puts
+  -- the number of new items is the number that the step puts
   counted : (a : PlainArchive) (source : List ℕ) (step : Step) → IsCopyStep config (shown_by_print a) from to source step → new_items config moment from to a source ≡ items_put (shown_by_print a) from source step
   counted a source step on =
       λ i. if sym (shows-printed a from source) i then Some (copied-count config moment a from to source step.plan on.plan i) else None

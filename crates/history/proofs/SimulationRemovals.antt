@@ -1,4 +1,4 @@
--- A removal by prints on what the book shows, and in the plain archive: the same.
+-- A removal by prints on what the book shows equals one in the plain archive.
 use Rattle.std.proofs.Common.{◌≡◌, ℕ, Bool, true, false, cond, not, ◌&&◌, ◌||◌, List, [], ◌∷◌, map, filter, length, Option, Some, None, fold, nat_eq, nat_lt, Ok, refl, sym, ap, ◌∙◌, subst, append-nil}
 use Rattle.std.specs.Prelude.{Contains}
 use Rattle.std.specs.FinMap.{entries, get, values}
@@ -109,7 +109,7 @@ module _ (s suite : ℕ) (name : List ℕ) (old new : ShelvesWith BodyItem) (lef
   nothing_more : has_more s old new ≡ false
   nothing_more = no_more s old new (λ q y now at. ap (λ o. has_version o y) (was_there (is_left suite name q) (get old q) y (sym (left q) ∙ now)) ∙ itself y)
 
-  -- an item that was shown is shown no more exactly where a removal takes it
+  -- an item that was shown is no longer shown exactly if a removal takes it
   at_entry : (n r : Bool) (x : BodyItem) → (n && not (has_version (cond (not r) (Some x) None) x)) ≡ (r && n)
   at_entry true true x = refl
   at_entry false true x = refl
@@ -127,7 +127,7 @@ module _ (s suite : ℕ) (name : List ℕ) (old new : ShelvesWith BodyItem) (lef
       ∙ at_entry (nat_eq e.0.suite s) (is_removed suite name e) e.1))
       ∙ sym (any_filter (λ (e : ShelfKey × BodyItem). nat_eq e.0.suite s) (λ (e : ShelfKey × BodyItem). is_removed suite name e) (entries old))
 
-  -- THE SUITE shows something else exactly where an item of it is taken.
+  -- THE SUITE shows something else exactly if an item of it is taken.
   changed-removed : is_changed s old new ≡ list_any (λ (e : ShelfKey × BodyItem). nat_eq e.0.suite s) (filter (λ (e : ShelfKey × BodyItem). is_removed suite name e) (entries old))
   unfolding is_changed
   changed-removed = ap (λ b. b || has_more s new old) nothing_more ∙ gone
@@ -185,7 +185,7 @@ module _ (config : ConfigValue) (moment : ℕ) (a : PlainArchive) (suite : ℕ) 
       bodies-simulated bodies config arrivals a (removed moment a suite name) (steps_at moment (removal_step_of plan ∷ [])) apart known_from made
       (removed_stored arrivals moment a suite name (shown_stored bodies arrivals a apart made agreed)) removed-simulated
 
-  -- as many items were shown as the plan drops
+  -- the number of items that were shown is the number that the plan drops
   pub removed-count : count_of_shown suite name a ≡ length plan.dropped
   unfolding count_of_shown
   removed-count =

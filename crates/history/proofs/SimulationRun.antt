@@ -40,7 +40,7 @@ use Rattle.sums.specs.FileNames.{is_changes_name}
 
 -- ---- what is due
 
--- an upload that was read, and of which each listed file has arrived
+-- an upload that was read, with all its listed files arrived
 pub record IsDue (arrivals : List Arrival) (c : Candidate) : Type 0 where
   pub read : result_ok (changes_in c.body) ≡ Some c.changes
   pub complete : is_complete arrivals c ≡ true
@@ -131,7 +131,7 @@ uploads_of arrivals (c ∷ cs) = ap (λ rest. upload_of arrivals c ∷ rest) (up
 abbrev pub after_run : ConfigValue → ℕ → List Arrival → List Candidate → PlainArchive → PlainArchive
 after_run config moment arrivals cs a = fold (acted config) a (map (λ c. Whole (whole_of arrivals c) moment) cs)
 
--- Of the arrivals, `now` are those that count at the moment.
+-- `now` are the arrivals that count at the moment.
 module _ (bodies : List (List ℕ)) (apart : NoCollision bodies) (config : ConfigValue) (moment : ℕ) (arrivals now : List Arrival) (among : AreAmong now arrivals)
     (a : PlainArchive) (cs : List Candidate) (steps : List Step) (from : AreFrom bodies arrivals) (made : AreMadeOf bodies a.admitted) (due : AreDue now cs)
     (judged : AreJudged config (shown_by_print a) (map (upload_of now) cs) steps) where

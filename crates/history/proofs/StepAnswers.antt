@@ -52,7 +52,7 @@ allowed may_fail h call keep_faults.Size may free = (may, tt, free)
 allowed may_fail h call keep_faults.NoArchive may free = absurd may
 allowed may_fail h call keep_faults.Configuration may free = absurd may
 
--- where a keeper refuses, the archive's fault may stand in the answer's place
+-- if a keeper refuses, the archive's fault may replace the answer
 pub keeper_step : (may_fail : Bool) (h : History) (call : Call) (fault : KeepFault) (told : Fault) (was_open is_open : Type 0) (old new : Book) → told ≡ of_keeper fault → IsKept was_open old h → IsSame was_open is_open old new
     → MayAnswer may_fail fault → is_refused h call ≡ false → IsStep may_fail h call (Err told) is_open new
 keeper_step may_fail h call fault told was_open is_open old new is kept same may free =
@@ -71,7 +71,7 @@ keepers_of may_fail free keep_faults.Size may here = (may, tt, here)
 keepers_of may_fail free keep_faults.NoArchive may here = absurd may
 keepers_of may_fail free keep_faults.Configuration may here = absurd may
 
--- what a keeper refuses is a refusal of its own, and so is want of memory
+-- a refusal by a keeper is the keeper's own, and so is want of memory
 pub keepers_own : (may_fail : Bool) (free : Type 0) (fault : KeepFault) (told : Fault) → told ≡ of_keeper fault → MayAnswer may_fail fault → free → IsKeepers may_fail free told
 keepers_own may_fail free fault told is may here = subst (λ (f : Fault). IsKeepers may_fail free f) (sym is) (keepers_of may_fail free fault may here)
 
@@ -159,7 +159,7 @@ delivered_last h name body moment =
     subst (λ bodies. Contains bodies body) (sym (flat_map-append bodies_of_call (calls_of h.steps) (Delivery name body moment ∷ [])))
     (Contains-append_right (bodies_of (calls_of h.steps)) (body ∷ []) body (0, omega arith, refl))
 
--- a delivery that is done, where what the keeper says holds for all bodies without collision
+-- a delivery that is done, if what the keeper says holds for all bodies without collision
 pub delivered_step : (may_fail : Bool) (h : History) (name body : List ℕ) (moment : ℕ) (is_open : Type 0) (old new : Book) (fresh : Bool)
     → Stands old h → IsFaithful h (Delivery name body moment ∷ []) → delivery_fault name body moment ≡ None
     → ((bodies : List (List ℕ)) → NoCollision bodies → HasBodies bodies old → Contains bodies body
@@ -239,7 +239,7 @@ waiting_lines : (book : Book) → map line_on_waiting (waiting_list book) ≡ ma
 unfolding waiting_list waiting_line
 waiting_lines book = map-map _ _ (unjudged book)
 
--- the waiting uploads, where what the keeper says holds for all bodies without collision
+-- the waiting uploads, if what the keeper says holds for all bodies without collision
 pub waiting_step : (may_fail : Bool) (h : History) (moment : ℕ) (is_open : Type 0) (old new : Book) (waiting : List Waiting) (lines : List (List ℕ))
     → Stands old h → IsFaithful h (WaitingList moment ∷ []) → moment ≤ latest
     → ((bodies : List (List ℕ)) → NoCollision bodies → HasBodies bodies old → waiting ≡ waiting_list (at_moment moment old))

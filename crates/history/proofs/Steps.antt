@@ -44,7 +44,7 @@ book_of-followed h call outcome =
     ap (λ now. book_from h.opening.config now (archive (followed h call outcome))) (arrived-push h.opening h.steps call outcome)
     ∙ ap (book_from h.opening.config (arrivals_after (span h.opening.config) (arrived h.opening h.steps) call outcome)) (archive-push h call outcome)
 
--- one that does nothing to the plain archive, and behind which the same has arrived, leaves the book
+-- a call that does nothing to the plain archive, and leaves what has arrived, leaves the book
 pub book_of-idle : (h : History) (call : Call) (outcome : Result Reply Fault)
     → arrivals_after (span h.opening.config) (arrived h.opening h.steps) call outcome ≡ arrived h.opening h.steps → acts_of h.opening h.steps call outcome ≡ []
     → book_of (followed h call outcome) ≡ book_of h

@@ -28,13 +28,13 @@ use Rattle.history.specs.Archives.{PlainArchive, WholeUpload, by_body, listed_bo
 use Rattle.history.proofs.ContentsListed.{HasItsBodies, entry_body}
 use Rattle.history.proofs.PoolPrints.{get-pool}
 
--- The bodies of the upload and of the pool are among these, of which no two have one print.
+-- The bodies of the upload and of the pool are among these, and no two of these have one print.
 pub record AreKnown (bodies : List (List ℕ)) (a : PlainArchive) (w : WholeUpload) : Type 0 where
   pub apart : NoCollision bodies
   pub pooled : (path body : List ℕ) → get (pool_in a) path ≡ Some body → Contains bodies body
   pub brought : (body : List ℕ) → Contains w.bodies body → Contains bodies body
 
--- ---- prints that are the same
+-- ---- equal prints
 
 same_print-itself : (a : Print) → same_print a a ≡ true
 same_print-itself a =
@@ -76,7 +76,7 @@ lacks-printed a w u =
 
 -- ---- row 9
 
--- a body of the pool is the entry's where its print is
+-- a body of the pool is the entry's if its print is
 same_body : (bodies : List (List ℕ)) (there body : List ℕ) (print : Print) → NoCollision bodies → Contains bodies there → Contains bodies body → print_of body ≡ print
     → same_print (print_of there) print ≡ bytes_eq there body
 same_body bodies there body print apart p q is = same_test _ _
@@ -109,7 +109,7 @@ other-printed bodies a w known whole =
 
 -- ---- the verdict
 
--- The verdict by prints is that by bodies, where no two of the known bodies have one print.
+-- The verdict by prints is that by bodies, if no two of the known bodies have one print.
 pub verdict-printed : (bodies : List (List ℕ)) (config : ConfigValue) (a : PlainArchive) (w : WholeUpload) → AreKnown bodies a w → HasItsBodies w
     → verdict_on config (shown_by_print a) w.upload ≡ verdict_with (by_body w) (pool_in a) config w.upload
 verdict-printed bodies config a w known whole =

@@ -1,4 +1,4 @@
--- Commands behind the making or the opening of an archive.
+-- Commands after the making or the opening of an archive.
 use Rattle.std.proofs.Common.{◌≡◌, ◌⊎◌, ◌≤◌, ℕ, Bool, List, map, Option, Result, IfOk, Contains, inl, inr, sym, ap, subst, ◌∙◌}
 use Rattle.std.specs.declared.alloc.AllocError.{AllocError}
 use Rattle.std.specs.declared.alloc.Global.{Global}
@@ -21,15 +21,16 @@ use Rattle.keep.proofs.Staying.{more_before}
 use Rattle.history.proofs.Reopening.{opens_itself}
 use Rattle.promise.proofs.Refusals.{both_then}
 
--- calls behind a book that has its files, where no two bodies of these and of the book have one print
+-- calls after a book that has its files, if no two bodies of these and of the book have one print
 pub faithful_opened : (b : Book) (calls : List Call) (bodies : List (List ℕ)) → HasItsFiles b → NoCollision bodies → HasBodies bodies b
     → ((body : List ℕ) → Contains (bodies_of calls) body → Contains bodies body) → IsFaithful (opened_with b) calls
 faithful_opened b calls bodies files apart have there = record { bodies = bodies; apart = apart; opened = record { known = have; whole = opens_itself b files }; delivered = there }
 
--- `made` is the keeper as it was made or opened, `old` the one of the archive, and `new` that behind the commands.
+-- `made` is the keeper as it was made or opened, `old` the one of the archive, and `new` the one after the
+-- commands.
 module _ {K : Type 0} {is_clean is_open : K → Type 0} {faults : K → ℕ} {book : K → Book} (may_fail : Bool) (made old new : K) (same : old ≡ made)
     (lasts : Lasts is_clean is_open faults book old new) where
-  -- what was clean behind the commands was so before
+  -- what was clean after the commands was so before
   pub clean_made : is_clean new → is_clean made
   clean_made clean = subst is_clean same (lasts.clean clean)
 
@@ -72,7 +73,7 @@ module _ {K : Type 0} {is_clean is_open : K → Type 0} {faults : K → ℕ} {bo
   pub ready_opened : HasItsFiles (book made) → is_open made → is_clean new → IsReady (opened_with (book made))
   ready_opened files up clean = ready (opened_with (book made)) up (ap book same ∙ opens_itself (book made) files) clean
 
-  -- so they go on behind the book, also over a crash
+  -- so the commands go on after the book, also over a crash
   pub go_on : (may_leave : Option Book → Type 0) (commands : List Command) (r : Result (Vec Outcome Global) AllocError) → HasItsFiles (book made) → is_open made → Drives commands r
       → IfOk r (λ outcomes. (h : History) → IsReady h → IsFaithful h (map call_of commands) → (left : Option Book) → may_leave left → IsLeftAlong h (map call_of commands) (map outcome_of outcomes.items) left)
       → is_clean new

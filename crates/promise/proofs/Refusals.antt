@@ -1,4 +1,4 @@
--- What holds behind an answer or a refusal.
+-- What holds after an answer or a refusal.
 use Rattle.std.proofs.Common.{Result, Ok, Err, IfOk, OnErr}
 
 pub err_then : {X E : Type 0} {P Q : Type 0} (r : Result X E) → OnErr r P → (P → Q) → OnErr r Q

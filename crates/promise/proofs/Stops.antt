@@ -1,4 +1,4 @@
--- What is found behind a stop.
+-- What is found after a stop.
 use Rattle.std.proofs.Common.{◌≡◌, ◌⊎◌, Option, Some, None, inl, inr, refl, sym, ap, subst}
 use Rattle.std.proofs.Math.Logic.{∥∥₁_elim, ∥∥₁_map}
 use Rattle.std.proofs.Props.{props}
@@ -61,7 +61,7 @@ pub one_of : (one other : Book) (o : Option Book) → (o ≡ Some one) ⊎ (o �
 one_of one other None is = elim is [ inl e ↦ cc | inr e ↦ cc ]
 one_of one other (Some b) is = elim is [ inl e ↦ inl (same_Some b one e) | inr e ↦ inr (same_Some b other e) ]
 
--- the same, the other only where this holds
+-- one book; or another, if this holds
 abbrev pub OneOrThen : Book → Type 0 → Book → Book → Type 0
 OneOrThen one Then other b = (b ≡ one) ⊎ (Then × (b ≡ other))
 

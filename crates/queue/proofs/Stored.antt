@@ -8,7 +8,7 @@ use Rattle.history.specs.Receiving.{GaveUpTo, HasRead, WasShort}
 use Rattle.history.specs.declared.fault.Fault.{Fault}
 use Rattle.history.specs.declared.fault.Fault.TheVariants.{OutOfMemory, BadName, TooLarge, Record, Keeper, Moment, UnknownSuite, SameSuite, NothingToCopy, Ended, ReaderFailed, NothingToRemove}
 
--- a refusal behind what was read before
+-- a refusal after what was read before
 module _ (may_fail : Bool) (a b c : Option (List ℕ)) (front : List ℕ) (n size : ℕ) (before : Consumes a b front) (fits : length front + size ≤ n) where
   longer : (more : List ℕ) → length (front ++ more) ≡ length front + length more
   longer more = length-append front more

@@ -73,7 +73,7 @@ none_last (p ∷ rest) last =
     none_some : {x : Part} → None ≡ Some x → ⊥
     none_some e = absurd (cc)
 
--- none
+-- no parts, and a printer that was given nothing
 pub behind_none : (parts : List Part) (printer : Printer) → slice_get parts (length parts - 1) ≡ None → Holds printer [] → IsBehind parts printer
 unfolding ArePrinted
 behind_none parts printer last holds = subst (λ (ps : List Part). IsBehind ps printer) (sym (none_last parts last)) (record { printed = tt; given = holds })
@@ -85,6 +85,6 @@ behind_pushed parts after bytes p old new behind given same copy is =
     subst₂ (λ (ps : List Part) (q : Printer). IsBehind ps q) (sym is) copy
     (behind_more parts p behind.printed (subst₂ (λ (q : Printer) (l : List ℕ). Holds q (joined parts ++ l)) (sym copy) (sym same) (given (joined parts) behind.given)))
 
--- a copy is the same
+-- a copy is equal
 pub same_printer : (p q : Printer) → (p.size ≡ q.size) × ((p.md5 ≡ q.md5) × ((p.sha1 ≡ q.sha1) × (p.sha256 ≡ q.sha256))) → p ≡ q
 same_printer p q same = λ i. record { size = same.0 i; md5 = same.1.0 i; sha1 = same.1.1.0 i; sha256 = same.1.1.1 i }

@@ -39,7 +39,7 @@ same_append path xs ys us vs p q = by_case (text_at path xs) refl
     by_case None h = sym (none_front path xs ys h) ∙ q ∙ none_front path us vs (h ∙ p)
     by_case (Some text) h = sym (found_front path xs ys text h) ∙ found_front path us vs text (h ∙ p)
 
--- one more text on both sides, the same one, or one whose path is among those that are renewed
+-- one more text on both sides: the same one, or one whose path is among those that are renewed
 cover_one : (texts : List IndexText) (path : List ℕ) (d e : PathText) (ds es : List PathText) → d.0 ≡ e.0 → Listed texts d.0 ⊎ (d.1 ≡ e.1)
     → Listed texts path ⊎ (text_at path ds ≡ text_at path es) → Listed texts path ⊎ (text_at path (d ∷ ds) ≡ text_at path (e ∷ es))
 cover_one texts path d e ds es same first rest = by_case (bytes_eq d.0 path) refl

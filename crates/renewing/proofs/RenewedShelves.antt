@@ -34,7 +34,7 @@ use Rattle.texts.specs.declared.places.Place.{Place}
 -- ---- the entries of a map that pass
 
 module _ {K X : Type 0} {R : K → K → Ordering} (total : IsTotalOrder R) (same : IsAntisymmetric R) (p : K × X → Bool) where
-  -- what is found at a key, where it passes
+  -- what is found at a key, if it passes
   abbrev passing : K → Option X → Option X
   passing q None = None
   passing q (Some x) = cond (p (q, x)) (Some x) None

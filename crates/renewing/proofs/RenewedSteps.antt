@@ -35,13 +35,13 @@ kept_index old shelves steps folder place path whole kept own path_is whole_is k
     ∙ ap (index (place_path place)) (own_is ∙ ap (λ (o : Option (List ℕ)). print (unwrap_or o [])) there_is)
     ∙ ap (λ (b : Bool). index (place_path place) (print (if b then place_text shelves folder.suite place else unwrap_or (old (path_in folder (place_path place))) []))) (sym unchanged)
 
--- its text is none of those that are other
+-- its text is not among those that differ
 pub kept_texts : (old : List ℕ → Option (List ℕ)) (shelves : ShelvesValue) (steps : List Step) (folder : Folder) (place : Place) → some_changes_index folder.suite place steps ≡ false
     → renewed_index old shelves steps folder place ≡ []
 unfolding renewed_index
 kept_texts old shelves steps folder place unchanged = rw unchanged refl
 
--- the print of the text that is kept, by the print of the text where there is one
+-- the print of the text that is kept, from the print of the text if there is one
 pub print_or : (kept : Option (List ℕ)) → unwrap_or (option_map print kept) (print []) ≡ print_kept kept
 unfolding print_kept
 print_or None = refl

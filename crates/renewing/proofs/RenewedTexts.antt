@@ -52,7 +52,7 @@ Listed texts path = (t : IndexText) × Contains texts t × (t.path ≡ path)
 abbrev pub TextsDiffer : IndexText → IndexText → Type 0
 TextsDiffer t u = t.path ≢ u.path
 
--- A text is told by its path and its bytes: its print is that of the bytes.
+-- A text is given by its path and its bytes: its print is that of the bytes.
 pub is_to_keep : (t : IndexText) → t ≡ text_to_keep t.path t.text
 is_to_keep t =
     let with_print : (own : Print) → own ≡ print t.text → IndexText = λ own is. record { path = t.path; text = t.text; print = own; printed = is } in
@@ -61,7 +61,7 @@ is_to_keep t =
     let one : IsProp (print t.text ≡ print t.text) = hlevel props in
     ap (with_print (print t.text)) (one is refl)) t.printed
 
--- a text that is pushed where another is kept
+-- a text that is pushed if another is kept
 pub pushed_other : (old new : List IndexText) (kept : Option (List ℕ)) (t : IndexText) → new ≡ old ++ t ∷ [] → is_kept kept t.text ≡ false → new ≡ old ++ renewed_at kept t.path t.text
 unfolding renewed_at
 pushed_other old new kept t is other =

@@ -1,4 +1,4 @@
--- What the fields give is what those behind give, with the length that was found.
+-- What the fields give is what those that follow give, with the length that was found.
 use Rattle.std.proofs.Common.{◌≡◌, map, drop}
 use Rattle.httparse.specs.Spans.{header_bytes}
 use Rattle.desk.specs.Want.{content_length}

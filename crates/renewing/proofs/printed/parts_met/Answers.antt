@@ -4,7 +4,7 @@ use Rattle.renewing.specs.Printed.{joined}
 use Rattle.renewing.proofs.PrintedLemmas.{part_met}
 use Rattle.renewing.proofs.printed.parts_met.Goals as goal
 
--- two lists of bytes that no test tells apart
+-- two lists of bytes that no test distinguishes are equal
 same : (a b : List ℕ) → false ≡ not (bytes_eq a b) → a ≡ b
 same a b told = (bytes_eq-Decides a b).0 (kind (bytes_eq a b) told)
   where

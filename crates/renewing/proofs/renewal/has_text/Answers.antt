@@ -4,7 +4,7 @@ use Rattle.sums.specs.Prints.{print}
 use Rattle.keep.specs.Book.{text_at}
 use Rattle.renewing.proofs.renewal.has_text.Goals as goal
 
--- a text is there where its print is
+-- a text is there if its print is
 is_printed : (kept : Option (List ℕ)) → is_some (option_map print kept) ≡ is_some kept
 is_printed None = refl
 is_printed (Some text) = refl
