@@ -49,7 +49,7 @@ come_before old mid front (TurnedAway OutOfMemory) read may = absurd may
 come_before old mid front Silent read may = absurd may
 come_before old mid front (Called want body at outcome) read may = absurd may
 
--- a reader whose bytes are known gave as many as it gave
+-- a reader that gave `n` bytes, and fewer as well, has unknown bytes
 unknown_of : (old new : Option (List ℕ)) (n : ℕ) (body front : List ℕ) → Consumes old new body → length body ≡ n → Consumes old new front → length front < n → old ≡ None
 unknown_of None new n body front one size other short = refl
 unknown_of (Some xs) None n body front one size other short = absurd one
@@ -193,7 +193,7 @@ module _ {K : Type 0} (g : Ghosts K) where
         ])
       ]
 
-    -- one whose whole body was read, and that is refused by its name, its body or its moment
+    -- a delivery whose whole body was read, and that is refused by its name, its body or its moment
     refused_whole : (e : Fault) → LeavesReceived g old new name n moment before after → n ≤ most_size → IsRefusedFor old new name n moment e × IsAsBefore g before after → IsCarriedOut g old new before after (delivery name n) moment (Some (fault_message e))
     refused_whole e leaves small h = elim h.0 [
       | inl whole ↦ record {
@@ -206,7 +206,7 @@ module _ {K : Type 0} (g : Ghosts K) where
       | inr large ↦ absurd (omega (arith, large.0, small))
     ]
 
-    -- one that was refused
+    -- a delivery that was refused
     pub received_not : (e : Fault) → LeavesReceived g old new name n moment before after → n ≤ most_size → IsReceived g old new name n moment before after (Err e) → IsCarriedOut g old new before after (delivery name n) moment (reception_message e)
     received_not fault.OutOfMemory leaves small h = record {
       course = Short;

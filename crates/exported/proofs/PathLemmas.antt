@@ -61,6 +61,6 @@ module _ {V : Type 0} where
   pub rest_within : (e : String Global × V) (es : List (String Global × V)) → have_pool_paths (e ∷ es) ≡ true → have_pool_paths es ≡ true
   rest_within e es all = second_true _ _ all
 
--- one path more
+-- one more path of the pool
 pub pushed_within : (paths : List (List ℕ)) (path : List ℕ) → list_all is_pool_path paths ≡ true → is_pool_path path ≡ true → list_all is_pool_path (paths ++ path ∷ []) ≡ true
 pushed_within paths path all within = list_all-append is_pool_path paths (path ∷ []) ∙ both _ _ all (both _ _ within refl)

@@ -223,7 +223,7 @@ impl Manifest {
         }
     }
 
-    /// The manifest that bytes have; one that knows nothing where there are none, or another line is among them.
+    /// The manifest of these bytes. It knows nothing if there are none, or if another line is among them.
     pub fn read(alloc: Global, bytes: Option<&[u8]>) -> Result<Manifest, AllocError> {
         let mut manifest = Manifest::new(alloc);
         let Some(Ok(text)) = bytes.map(|bytes| std::str::from_utf8(bytes)) else {
@@ -255,7 +255,7 @@ impl Manifest {
         Ok(true)
     }
 
-    /// Takes a line behind the first, and says whether it is one of a manifest.
+    /// Takes a line after the first, and says whether it belongs to a manifest.
     fn read_line(&mut self, alloc: Global, line: &str) -> Result<bool, AllocError> {
         if let Some((codename, state, before)) = shown_in_line(line) {
             let before = if before == "-" { None } else { Some(before) };
@@ -270,7 +270,7 @@ impl Manifest {
         Ok(true)
     }
 
-    /// Knows something of a path of the pool.
+    /// Records what is known of a path of the pool.
     fn put(&mut self, alloc: Global, path: &str, known: Known) -> Result<(), AllocError>
         requires { is_path_in_pool path.now ≡ true }
     {
@@ -298,7 +298,7 @@ impl Manifest {
         Ok(())
     }
 
-    /// The whole text.
+    /// The whole text of the manifest.
     pub fn text(&self, alloc: Global) -> Result<String, AllocError> {
         let mut text = String::from_str(alloc, FIRST)?;
         text.push('\n')?;

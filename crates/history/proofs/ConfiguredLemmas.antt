@@ -26,13 +26,13 @@ configured_files config moment book apart stay its =
       files = λ path. pool_moved book.config.suites config.suites names book.shown stay its.agreed path ∙ its.files path;
     }
 
--- so it stands for the history that opens with it
+-- the configured book stands for the history that opens with it
 pub configured_stands : (config : ConfigValue) (moment : ℕ) (h : History) → ClaimApart (book_of h).config.suites → keeps_shown config (book_of h) ≡ true
     → AreAgreed (files_of (values (book_of h).shown)) → Stands (configured config moment (book_of h)) (reopened config moment h)
 configured_stands config moment h apart stay agreed =
     opens_itself (configured config moment (book_of h)) (configured_files config moment (book_of h) apart stay (book_of-files h agreed))
 
--- and calls go on after it
+-- calls go on after the configured book
 pub configured_goes_on : (config : ConfigValue) (moment : ℕ) (h : History) (calls : List Call) → ClaimApart (book_of h).config.suites → keeps_shown config (book_of h) ≡ true
     → AreAgreed (files_of (values (book_of h).shown)) → IsFaithful h calls → IsFaithful (reopened config moment h) calls
 unfolding configured

@@ -159,7 +159,7 @@ copy_past : (old now : Book) (shelves after : ShelvesValue) (plan : Plan) (made 
 copy_past old now shelves after plan made same is_shown is_steps is =
     is ∙ ap (λ (m : ShelvesValue). plans.applied m plan) (is_shown ∙ ap (λ (b : Book). b.shown) (sym same)) ∙ ap (shown_past now.shown) (sym is_steps)
 
--- it is a copy of what the book shows
+-- the plan is a copy of what the book shows
 copy_on : (old : Book) (config : ConfigValue) (shelves : ShelvesValue) (f t : ℕ) (source : List ℕ) (plan : Plan) → config ≡ old.config → shelves ≡ old.shown → IsCopy config shelves f t source plan
     → IsCopy old.config old.shown f t source plan
 copy_on old config shelves f t source plan is_config is_shown copy =
@@ -204,7 +204,7 @@ module _ (may_fail : Bool) (h : History) (from to source : List ℕ) (moment f t
       copy_step may_fail h from to source moment f t is_open old new plan stands faithful (le-ltb latest moment in_time) copy.sound suites.from_named suites.to_named suites.other copy.shows copy.step
       (is ∙ ap (λ xs. amended old (steps_at moment xs)) is_steps)
 
-  -- one that is done
+  -- a copy that is done
   pub done_copy : (is_open : Type 0) (new : Book) (items : ℕ) → OnceAmended now moment made (λ book. new ≡ book) → items ≡ length plan.put
       → IsStep may_fail h (Copying from to source moment) (Ok (Count items)) is_open new
   done_copy is_open new items is count =

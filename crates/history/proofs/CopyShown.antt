@@ -6,7 +6,7 @@ use Rattle.suites.proofs.HeldLemmas.{any-append, or_none}
 use Rattle.std.proofs.lemmas.Bool.{or_right, or_left}
 
 module _ {A X : Type 0} (shows : A → X) (test : X → Bool) where
-  -- one more that fails the test
+  -- one more that fails the test leaves none that passes
   pub none_more : (before : List A) (x : A) → list_any test (map shows before) ≡ false → test (shows x) ≡ false → list_any test (map shows (before ++ x ∷ [])) ≡ false
   none_more before x none failed =
       ap (list_any test) (map-append shows before (x ∷ []))
@@ -21,7 +21,7 @@ module _ {A X : Type 0} (shows : A → X) (test : X → Bool) where
       ∙ append_assoc (map shows before) (shows x ∷ []) behind
       ∙ ap (λ xs. map shows before ++ xs) (sym e) ∙ h
 
-  -- one of all passes
+  -- if one passes, one of all passes
   pub some_shown : (before : List A) (x : A) (rest behind all : List X) → rest ≡ shows x ∷ behind → map shows before ++ rest ≡ all
       → test (shows x) ≡ true → list_any test all ≡ true
   some_shown before x rest behind all e h passed =

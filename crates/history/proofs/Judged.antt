@@ -298,7 +298,7 @@ unjudged_known bodies apart h knows moment =
     (all_weaker (IsOf (Contains bodies)) _ (λ c hc. ap not (is_judged-was_judged bodies apart h knows c hc)) all
     (candidates_are_of (Contains bodies) (counting h.opening h.steps moment) (counting_known (Contains bodies) h knows moment))))
 
--- and those that are due are those that a run at this moment judges
+-- the uploads that are due are those that a run at this moment judges
 pub due_known : (bodies : List (List ℕ)) → NoCollision bodies → (h : History) → Knows (Contains bodies) h
     → (moment : ℕ) → due (at_moment moment (book_of h)) ≡ due_after h.opening h.steps moment
 unfolding due book_of book_from at_moment counting

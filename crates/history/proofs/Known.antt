@@ -216,7 +216,7 @@ arrived_have K opening steps opened =
     (all_back (λ (s : Step). AllByRecursion K (bodies_of_call s.call)) xs (x ∷ []) h).0))
     steps
 
--- and so are those that count at a moment
+-- the bodies that count at a moment are known, too
 pub counting_have : (K : List ℕ → Type 0) (opening : Book) (steps : List Step) (moment : ℕ) → ArrivalsHave K (arrived opening steps) → ArrivalsHave K (counting opening steps moment)
 unfolding counting
 counting_have K opening steps moment h = current_have K (span opening.config) moment (arrived opening steps) h

@@ -100,7 +100,7 @@ free_promotion h old config from to sources moment f t is_open kept is_config in
 
 -- ---- a promotion that is done
 
--- its steps, on what is shown
+-- the steps of a promotion, on what is shown
 promotion_steps : (old now : Book) (config : ConfigValue) (shelves : ShelvesValue) (f t : ℕ) (sources : List (List ℕ)) (steps given : List Step)
     → now ≡ old → shelves ≡ old.shown → given ≡ steps → AreCopied config f t shelves sources steps → AreSteps now.shown given
 promotion_steps old now config shelves f t sources steps given same is_shown is_given copied =
@@ -114,7 +114,7 @@ promotion_past old now config shelves after f t sources steps given same is_show
     ∙ ap (λ (m : ShelvesValue). shown_past m steps) (is_shown ∙ ap (λ (b : Book). b.shown) (sym same))
     ∙ ap (shown_past now.shown) (sym is_given)
 
--- they copy what the book shows
+-- the steps copy what the book shows
 copied_on : (old : Book) (config : ConfigValue) (shelves : ShelvesValue) (f t : ℕ) (names : List (List ℕ)) (sources : Option (List (List ℕ))) (steps : List Step)
     → config ≡ old.config → shelves ≡ old.shown → names ≡ sources_from shelves f sources → AreCopied config f t shelves names steps
     → AreCopied old.config f t old.shown (sources_from old.shown f sources) steps
@@ -183,7 +183,7 @@ module _ (may_fail : Bool) (h : History) (from to : List ℕ) (sources : Option 
       promotion_step may_fail h from to sources moment f t is_open old new steps stands faithful (le-ltb latest moment in_time) sound_here suites.from_named suites.to_named suites.other copied_here
       (is ∙ ap (λ xs. amended old (steps_at moment xs)) is_steps)
 
-  -- one that is done
+  -- a promotion that is done
   pub done_promotion : (is_open : Type 0) (new : Book) (copies : List (List ℕ × Option ℕ)) → OnceAmended now moment made (λ book. new ≡ book) → copies ≡ copies_on config f t shelves names steps
       → IsStep may_fail h (Promoting from to sources moment) (Ok (Copies copies)) is_open new
   done_promotion is_open new copies is are =

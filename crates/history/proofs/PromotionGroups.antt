@@ -33,7 +33,7 @@ use Rattle.history.proofs.DatesCounts.{T_from_true, find_filter, shown_elsewhere
 
 -- ---- groups
 
--- one shelf more in the group of a source package
+-- one more shelf in the group of a source package
 pub keys_added : (m mid n : BTreeMap (String Global) (Vec ShelfKey Global)) (v : Vec ShelfKey Global) (bs p : List ℕ) (key : ShelfKey)
     → UpdatesBy string_cmp (λ k. slice_cmp nat_cmp bs (string_bytes k)) mid n (Some v) → bs ≡ p → v.items ≡ keys_in (get_by_text m p) ++ key ∷ []
     → ((q : List ℕ) → bytes_eq p q ≡ false → get_by_text mid q ≡ get_by_text m q)
@@ -56,7 +56,7 @@ taken_apart m n bs updates q other =
 abbrev pub keys_among : ℕ → List ℕ → List (ShelfKey × Item) → List ShelfKey
 keys_among suite source es = map (λ (a : ShelfKey × Item). a.0) (filter (is_of_source suite source) es)
 
--- one item more
+-- one more item adds its shelf
 pub key-push : (suite : ℕ) (source : List ℕ) (done : List (ShelfKey × Item)) (e : ShelfKey × Item)
     → cond (nat_eq e.0.suite suite) (keys_among suite source done ++ cond (bytes_eq e.1.source source) (e.0 ∷ []) []) (keys_among suite source done) ≡ keys_among suite source (done ++ e ∷ [])
 unfolding is_of_source

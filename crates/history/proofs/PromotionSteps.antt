@@ -43,7 +43,7 @@ each_once-push names name = fold-append with_name [] names (name ∷ [])
 abbrev pub sources_among : ℕ → List (ShelfKey × Item) → List (List ℕ)
 sources_among suite es = map (λ (e : ShelfKey × Item). e.1.source) (filter (λ (e : ShelfKey × Item). nat_eq e.0.suite suite) es)
 
--- one item more
+-- one more item adds its source package
 pub source-push : (suite : ℕ) (done : List (ShelfKey × Item)) (e : ShelfKey × Item)
     → cond (nat_eq e.0.suite suite) (with_name (each_once (sources_among suite done)) e.1.source) (each_once (sources_among suite done)) ≡ each_once (sources_among suite (done ++ e ∷ []))
 source-push suite done e =
@@ -72,7 +72,7 @@ module _ (config : ConfigValue) (from to : ℕ) where
   copied-push shelves (s ∷ ss) [] source step are is = absurd are
   copied-push shelves (s ∷ ss) (t ∷ ts) source step are is = (are.0, copied-push (after_copy config shelves from to s) ss ts source step are.1 is)
 
-  -- and what it answers
+  -- the answer of one more copy
   pub copies-push : (shelves : ShelvesValue) (sources : List (List ℕ)) (steps : List Step) (source : List ℕ) (step : Step) → AreCopied config from to shelves sources steps
       → copies_on config from to shelves (sources ++ source ∷ []) (steps ++ step ∷ [])
       ≡ copies_on config from to shelves sources steps ++ (source, items_put (after_copies config from to shelves sources) from source step) ∷ []

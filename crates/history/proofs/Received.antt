@@ -184,7 +184,7 @@ module _ {K : Type 0} (g : Ghosts K) (old new : Option (List ℕ)) (name : List 
           (no_fault name here.body moment named plain (omega (arith, here.gave_it.1, small)) in_time) (here.is_new clean) (here.arrives clean)),
     )
 
-    -- one that was not stored
+    -- a body that was not stored
     pub received_not : (e : Fault) → is_file_name name ≡ true → is_changes_name name ≡ false → n ≤ most_size → moment ≤ latest → HasRead g.may_fail old new n e → IsUndone g before after
         → IsReceived g old new name n moment before after (Err e)
     received_not OutOfMemory named plain small in_time h same = (h, as_before same)

@@ -140,7 +140,7 @@ removal_past : (old now : Book) (shelves after : ShelvesValue) (plan : Plan) (ma
 removal_past old now shelves after plan made same is_shown is_steps is =
     is ∙ ap (λ (m : ShelvesValue). plans.applied m plan) (is_shown ∙ ap (λ (b : Book). b.shown) (sym same)) ∙ ap (shown_past now.shown) (sym is_steps)
 
--- it is a removal from what the book shows
+-- the plan is a removal from what the book shows
 removal_on : (now : Book) (shelves : ShelvesValue) (place : ℕ) (name : List ℕ) (plan : Plan) → shelves ≡ now.shown → IsRemoval shelves place name plan → IsRemoval now.shown place name plan
 removal_on now shelves place name plan is_shown removal = subst (λ s. IsRemoval s place name plan) is_shown removal
 
@@ -183,7 +183,7 @@ module _ (may_fail : Bool) (h : History) (suite name : List ℕ) (moment place :
       removal_step may_fail h suite name moment place is_open old new plan stands faithful (le-ltb latest moment in_time) removal.sound named removal.shows removal.step removal.put removal.dropped
       (is ∙ ap (λ xs. amended old (steps_at moment xs)) is_steps)
 
-  -- one that is done
+  -- a removal that is done
   pub done_removal : (is_open : Type 0) (new : Book) (items : ℕ) → OnceAmended now moment made (λ book. new ≡ book) → items ≡ length plan.dropped
       → IsStep may_fail h (Removing suite name moment) (Ok (Count items)) is_open new
   done_removal is_open new items is count =

@@ -67,7 +67,7 @@ module _ (book : Book) (its : HasItsFiles book) where
       let theirs : Contains files (f.0, found.0) = find-Contains text_order_total text_order-IsAntisymmetric f.0 files found.0 found.1 in
       get-from_entries text_order_total files f.0 ∙ found.1 ∙ ap Some (its.agreed f.0 found.0 f.1 theirs at)
 
-  -- so the body there has the print
+  -- the body at the path of a file has its print
   has_print : (e : ShelfKey × Item) → Contains (entries book.shown) e → (f : PoolFile) → Contains e.1.files f → print_of (body_in book f.path) ≡ f.print
   has_print e at f k =
       let mine = file_within (values book.shown) e.1 f (contains_map (λ (x : ShelfKey × Item). x.1) e (entries book.shown) at) k in

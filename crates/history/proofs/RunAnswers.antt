@@ -28,7 +28,7 @@ pub late_run : (may_fail : Bool) (h : History) (moment : ℕ) → latest < momen
 unfolding answer
 late_run may_fail h moment late = rw (lt-ltb latest moment late) refl
 
--- one within it is not
+-- a run within the latest moment is not refused
 pub free_run : (h : History) (moment : ℕ) → moment ≤ latest → is_refused h (QueueRun moment) ≡ false
 unfolding is_refused
 free_run h moment in_time = le-ltb latest moment in_time
@@ -55,7 +55,7 @@ no_lines h moment none =
     ap (λ (cs : List Candidate). map report_line (drop (length a.judged) (fold (acted h.opening.config) a (map (λ c. Whole (whole_of (counting h.opening h.steps moment) c) moment) cs)).judged)) none
     ∙ ap (map report_line) (ap (drop (length a.judged)) (sym (append-nil a.judged)) ∙ drop-append_seam a.judged [])
 
--- and leaves the book
+-- a run when nothing is due leaves the book
 idle_book : (h : History) (moment : ℕ) (reply : Reply) → due_after h.opening h.steps moment ≡ [] → book_of (followed h (QueueRun moment) (Ok reply)) ≡ book_of h
 unfolding arrivals_after acts_of
 idle_book h moment reply none =
@@ -132,7 +132,7 @@ module _ (may_fail : Bool) (h : History) (moment : ℕ) (old now : Book) (config
       run_step h moment old us steps stands faithful sound_here uploads_here judged_here may_fail is_open new (le-ltb latest moment in_time)
       (is ∙ ap (λ xs. amended old (steps_at moment xs)) is_steps)
 
-  -- one that is done
+  -- a run that is done
   pub ran_step : (is_open : Type 0) (new : Book) (lines : List (List ℕ)) → OnceAmended now moment made (λ book. new ≡ book) → lines ≡ map report_line (judgements steps)
       → IsStep may_fail h (QueueRun moment) (Ok (Lines lines)) is_open new
   ran_step is_open new lines is are =

@@ -14,7 +14,7 @@ use Rattle.keep.specs.declared.change.Step.{Step}
 use Rattle.history.specs.Amending.{IsPlanned}
 use Rattle.history.specs.Judging.{AreJudged, IsJudged, after_uploads, judgement_on}
 
--- one more upload, judged on what the others leave
+-- one more upload is judged on what the others leave
 pub judged-push : (config : ConfigValue) (shelves : ShelvesValue) (us : List UploadValue) (steps : List Step) (u : UploadValue) (step : Step)
     → AreJudged config shelves us steps → IsJudged config (after_uploads config shelves us) u step → AreJudged config shelves (us ++ u ∷ []) (steps ++ step ∷ [])
 judged-push config shelves [] [] u step are is = (is, tt)

@@ -24,7 +24,7 @@ IsFaithful-front h calls more faithful =
       delivered = λ body there. faithful.delivered body (subst (λ all. Contains all body) (sym regrouped) (Contains-append_left (bodies_of (calls_of h.steps ++ calls)) (bodies_of more) body there));
     }
 
--- and with the others once that call is made
+-- after the first call the history is faithful with the other calls
 pub IsFaithful-rest : (h : History) (call : Call) (outcome : Result Reply Fault) (calls : List Call) → IsFaithful h (call ∷ calls) → IsFaithful (followed h call outcome) calls
 IsFaithful-rest h call outcome calls faithful =
     let regrouped : calls_of h.steps ++ call ∷ calls ≡ calls_of (followed h call outcome).steps ++ calls =

@@ -30,7 +30,7 @@ pub shown-with_items : (moment : ℕ) (items : List (Admitted (List ℕ))) (a : 
 unfolding with_admitted shown_by_print
 shown-with_items moment items a = shown_by_print-append a items
 
--- its dates are those after a plan for that step
+-- the dates of the archive with these items are those after a plan for that step
 pub dates-with_items : (moment : ℕ) (items : List (Admitted (List ℕ))) (a : PlainArchive) (after : ShelvesValue) (plan : Plan)
     → shown_by_print (with_items moment items a) ≡ after → IsStep (shown_by_print a) after plan
     → (with_items moment items a).dates ≡ dates_after moment a.dates plan

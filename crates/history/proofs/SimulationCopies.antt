@@ -151,7 +151,7 @@ module _ (config : ConfigValue) (moment : ℕ) (a : PlainArchive) (from to : ℕ
       amended-simulated bodies config arrivals a (copied config moment a from to source) (record { moment = moment; steps = copy_step_of plan ∷ []; texts = [] }) apart known_from made
       (copied_stored arrivals config moment a from to source (shown_stored bodies arrivals a apart made agreed)) copied-simulated
 
-  -- and it has a body for each file
+  -- the book after the copy has a body for each file
   pub copied-bodies : (bodies : List (List ℕ)) (arrivals : List Arrival) → NoCollision bodies → AreFrom bodies arrivals → AreMadeOf bodies a.admitted → AreAgreed (files_of (values (shown_by_print a)))
       → HasEachBody (book_from config arrivals a) (steps_at moment (copy_step_of plan ∷ []))
   copied-bodies bodies arrivals apart known_from made agreed =

@@ -49,7 +49,7 @@ sources-printed a from =
     (filter-map printed (λ (e : ShelfKey × Item). nat_eq e.0.suite from) (λ (e : ShelfKey × BodyItem). nat_eq e.0.suite from) (λ e. refl) (entries (shown_in a)))
     ∙ map-map (λ (e : ShelfKey × Item). e.1.source) printed (filter (λ (e : ShelfKey × BodyItem). nat_eq e.0.suite from) (entries (shown_in a)))
 
--- those of a promotion
+-- the source packages of a promotion
 pub promoted_sources : (a : PlainArchive) (from : ℕ) (sources : Option (List (List ℕ))) → sources_from (shown_by_print a) from sources ≡ sources_in a from sources
 promoted_sources a from (Some sources) = refl
 promoted_sources a from None = ap each_once (sources-printed a from)
@@ -129,7 +129,7 @@ module _ (config : ConfigValue) (moment from to : ℕ) where
         amended-simulated bodies config arrivals a (copied_all config moment from to a sources) (steps_at moment steps) apart known_from made
         (copies_stored arrivals a a sources (shown_stored bodies arrivals a apart made agreed)) (copies-simulated a sources steps on)
 
-    -- and it has a body for each file
+    -- the book after the promotion has a body for each file
     pub promoted-bodies : (bodies : List (List ℕ)) (arrivals : List Arrival) → NoCollision bodies → AreFrom bodies arrivals → AreMadeOf bodies a.admitted → AreAgreed (files_of (values (shown_by_print a)))
         → HasEachBody (book_from config arrivals a) (steps_at moment steps)
     promoted-bodies bodies arrivals apart known_from made agreed =

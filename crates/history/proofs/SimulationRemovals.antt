@@ -178,7 +178,7 @@ module _ (config : ConfigValue) (moment : ℕ) (a : PlainArchive) (suite : ℕ) 
       amended-simulated bodies config arrivals a (removed moment a suite name) (record { moment = moment; steps = removal_step_of plan ∷ []; texts = [] }) apart known_from made
       (removed_stored arrivals moment a suite name (shown_stored bodies arrivals a apart made agreed)) removed-simulated
 
-  -- and it has a body for each file
+  -- the book after the removal has a body for each file
   pub removed-bodies : (bodies : List (List ℕ)) (arrivals : List Arrival) → NoCollision bodies → AreFrom bodies arrivals → AreMadeOf bodies a.admitted → AreAgreed (files_of (values (shown_by_print a)))
       → HasEachBody (book_from config arrivals a) (steps_at moment (removal_step_of plan ∷ []))
   removed-bodies bodies arrivals apart known_from made agreed =

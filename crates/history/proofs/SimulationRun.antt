@@ -157,7 +157,7 @@ module _ (bodies : List (List ℕ)) (apart : NoCollision bodies) (config : Confi
   run-amended agreed =
       amended-simulated bodies config arrivals a (after_run config moment now cs a) (steps_at moment steps) apart from made (run-stored agreed) run-simulated
 
-  -- and it has a body for each file
+  -- the book after the run has a body for each file
   pub run-bodies : AreAgreed (files_of (values (shown_by_print a))) → HasEachBody (book_from config arrivals a) (steps_at moment steps)
   run-bodies agreed =
       bodies-simulated bodies config arrivals a (after_run config moment now cs a) (steps_at moment steps) apart from made (run-stored agreed) run-simulated

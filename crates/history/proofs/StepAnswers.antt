@@ -142,7 +142,7 @@ read_of true (Ok changes) is named = (changes, refl)
 read_of true (Err fault) is named = absurd (cc)
 read_of false read is named = absurd (cc)
 
--- and may be kept
+-- a delivery that is not refused may be kept
 pub deliverable : (name body : List ℕ) (moment : ℕ) → delivery_fault name body moment ≡ None → IsDeliverable name body
 unfolding delivery_fault record_fault
 deliverable name body moment none =

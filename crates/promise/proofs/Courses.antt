@@ -73,7 +73,7 @@ module _ {K : Type 0} {is_clean is_open : K → Type 0} {faults : K → ℕ} {bo
   pub ready_opened : HasItsFiles (book made) → is_open made → is_clean new → IsReady (opened_with (book made))
   ready_opened files up clean = ready (opened_with (book made)) up (ap book same ∙ opens_itself (book made) files) clean
 
-  -- so the commands go on after the book, also over a crash
+  -- the commands go on after the book, also over a crash
   pub go_on : (may_leave : Option Book → Type 0) (commands : List Command) (r : Result (Vec Outcome Global) AllocError) → HasItsFiles (book made) → is_open made → Drives commands r
       → IfOk r (λ outcomes. (h : History) → IsReady h → IsFaithful h (map call_of commands) → (left : Option Book) → may_leave left → IsLeftAlong h (map call_of commands) (map outcome_of outcomes.items) left)
       → is_clean new

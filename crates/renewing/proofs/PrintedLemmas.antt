@@ -28,7 +28,7 @@ first_printed before [] (suc n) are = tt
 first_printed before (p ∷ rest) zero are = tt
 first_printed before (p ∷ rest) (suc n) are = (are.0, first_printed (before ++ p.bytes) rest n are.1)
 
--- one more
+-- one more part is printed
 more_printed : (before : List ℕ) (parts : List Part) (p : Part) → ArePrinted before parts → Holds p.printer ((before ++ joined parts) ++ p.bytes)
     → ArePrinted before (parts ++ p ∷ [])
 unfolding ArePrinted

@@ -109,7 +109,7 @@ module _ {K X : Type 0} {R : K → K → Ordering} (total : IsTotalOrder R) (sam
 
 -- ---- indices
 
--- which items an index lists, and its text, by whether it is one of sources
+-- the items that an index lists, and its text, by whether it is an index of sources
 abbrev lists_by : Bool → ℕ → Place → ShelfKey × Item → Bool
 lists_by b suite place e = if b then is_in_sources suite place.component e else is_in_packages suite place.component place.architecture e
 

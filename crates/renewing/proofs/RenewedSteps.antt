@@ -47,7 +47,7 @@ unfolding print_kept
 print_or None = refl
 print_or (Some text) = refl
 
--- one more of a list that is gone over
+-- one more element of a list that is gone over
 pub mapped_more : {X Y : Type 0} (f : X → Y) (xs : List X) (i : ℕ) (x : X) (ys zs : List Y) (y : Y) → i < length xs → x ≡ get_or xs i x
     → zs ≡ ys ++ y ∷ [] → ys ≡ map f (take i xs) → y ≡ f x → zs ≡ map f (take (i + 1) xs)
 mapped_more f xs i x ys zs y inside is more so_far one =

@@ -45,7 +45,7 @@ entries_are shelves suite s date =
 
 -- ---- what is renewed
 
--- one of the texts has the path
+-- a text of this path is among the texts
 abbrev pub Listed : List IndexText → List ℕ → Type 0
 Listed texts path = (t : IndexText) × Contains texts t × (t.path ≡ path)
 
@@ -175,7 +175,7 @@ module _ (old : List ℕ → Option (List ℕ)) (shelves : ShelvesValue) (steps 
           index_or_release (found.0).component (found.0).architecture
           (folders f.codename f.codename (place_path found.0) (codes "Release") name name (sym first.1 ∙ e ∙ second.0)).1)
 
-  -- each is of one of the suites
+  -- each text is of one of the suites
   of_suites : (moment suite : ℕ) (suites : List Suite) (t : IndexText) → Contains (renewed_from old shelves steps moment suite suites) t
       → (s : Suite) × Contains suites s × ((path : List ℕ) × (t.path ≡ codes "dists/" ++ s.codename ++ codes "/" ++ path))
   unfolding renewed_from

@@ -11,7 +11,7 @@ use Rattle.keep.proofs.ReadLemmas.{reads_more}
 use Rattle.renewing.proofs.RenewedSteps.{suite_there}
 use Rattle.renewing.proofs.configuring.dates_under.Goals as goal
 
--- one date more
+-- one more date
 dates_more : (f : ℕ × Suite → ℕ) (suites : List Suite) (i date : ℕ) (dates more all : List ℕ) → i < length suites → more ≡ dates ++ (date ∷ []) → ((s : Suite) → slice_get suites i ≡ Some s → date ≡ f (i, s))
     → dates ++ map f (enumerate_from i (drop i suites)) ≡ all → more ++ map f (enumerate_from (i + 1) (drop (i + 1) suites)) ≡ all
 dates_more f suites i date dates more all inside made own so_far =
