@@ -66,7 +66,7 @@ def mean(parts):
 
 
 def words(text):
-    """What reads the words of a module, of which this is the text, the program and the folder first."""
+    """A parser for the words of a module with this text, whose first words are the program and the folder."""
     parser = argparse.ArgumentParser(prog=f"python3 -m {name()}", description=text, formatter_class=argparse.RawDescriptionHelpFormatter)
     parser.add_argument("archive", metavar="ARCHIVE")
     parser.add_argument("folder", metavar="FOLDER")
@@ -120,7 +120,7 @@ def taking():
 
 
 def digests(file):
-    """What the three digests of all bodies of a database file take, by hashlib. To read the bodies is not counted."""
+    """What the three digests of all bodies of a database file take, by hashlib. Reading the bodies does not count."""
     held = sqlite3.connect(file)
     found, parts = held.execute("SELECT bytes FROM pieces"), []
     while pieces := found.fetchmany(1000):
@@ -205,7 +205,7 @@ def cell(taken):
 
 
 def heading(*more):
-    """What stands over a table: the line that makes it again, the machine, and more sentences."""
+    """The text over a table: the line that makes it again, the machine, and more sentences."""
     words = ["python3", "-m", name(), "ARCHIVE", "FOLDER", *sys.argv[3:]]
     system = f"{platform.system()} {platform.release()}, {platform.machine()}"
     machine = f"{system}, {os.cpu_count()} processors, load {os.getloadavg()[0]:.1f}."

@@ -29,13 +29,14 @@ import sqlite3
 from bench import measure, ways
 from uploads import uploads
 
-# How many bytes a piece of a body has at most, and a large body.
+# The most bytes of a piece of a body, and the bytes of a large body.
 PIECE_SIZE, LARGE_SIZE = 65_536, 4_000_000
 
-# How many large bodies there are with --large.
+# The number of large bodies with --large.
 LARGE_COUNT = 500
 
-# How many versions of a package come in some years, and one of how many uploads has its files cleaned away.
+# The number of versions of a package that come in some years, and the number of uploads of which one has its files
+# cleaned away.
 VERSIONS, CLEANED = 4, 6
 
 # The kind of an item that is a package, and the number of the verdict of an upload that was accepted.

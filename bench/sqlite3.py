@@ -102,7 +102,7 @@ def settled(way, file):
 
 
 def checked(file):
-    """What the checks of a database take, the reading of all its rows, and the digests of all bodies."""
+    """What it takes to check a database, to read all its rows, and to digest all bodies."""
     held = sqlite3.connect(file)
     tables = [table for (table,) in held.execute("SELECT name FROM sqlite_schema WHERE type = 'table'")]
     held.close()
@@ -129,7 +129,7 @@ def deliveries(way, folder, count):
 
 
 def commits(file):
-    """What the adding of the pieces of a body of 4 MiB takes, each in a transaction of its own, by Python's sqlite3."""
+    """What it takes to add the pieces of a body of 4 MiB, each in a transaction of its own, by Python's sqlite3."""
     held = sqlite3.connect(file, isolation_level=None)
     held.executescript(START)
     body = held.execute("INSERT INTO bodies (size) VALUES (NULL)").lastrowid

@@ -21,7 +21,7 @@ RUN = 1467436850
 # A package whose upload waits.
 SMALL = uploads.Package("small")
 
-# How many bytes a piece of a body has, but the last.
+# The number of bytes of a piece of a body, except the last.
 PIECE = 65_536
 
 # A print: a size, and three digests.

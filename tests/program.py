@@ -140,7 +140,7 @@ class Serving:
         return it
 
     def answer(self, request):
-        """What is answered to a request."""
+        """The answer to a request."""
         return rest(self.sent(request))
 
     def said(self):
@@ -178,7 +178,8 @@ def rest(client):
 
 
 def unread(client):
-    """How many bytes that a client on loopback sent the server has not read, by what the system says of both ends."""
+    """The number of bytes that a client on loopback sent and the server has not read, as the system says for both
+    ends."""
     own, other = ("0100007F:%04X" % port for _, port in (client.getsockname(), client.getpeername()))
     with open("/proc/net/tcp", encoding="ascii") as it:
         queues = {tuple(words[1:3]): words[4].split(":") for words in map(str.split, it)}

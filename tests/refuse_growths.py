@@ -25,13 +25,14 @@ from tests.wants import named, path_of, tell_skipped
 
 CRATE = Path(__file__).resolve().parent.parent / "crates" / "test_archives"
 PROGRAM = Path(os.environ.get("TEST_ARCHIVES", CRATE / "out" / "test_archives")).resolve()
-# What the calls of the files of each ending are made over, in the order in which the program does it.
+# What the calls of the files of each ending are made over, in the order of the program.
 KEEPERS = {"growths": ["over lists", "over tables"], "moves": ["of older ones"]}
-# What grows nothing: a keeper in memory is opened by being handed over, and a cleaning of it takes elements out of its lists.
+# Calls that make nothing grow: a keeper in memory is opened by being handed over, and a cleaning of it takes elements out of
+# its lists.
 NOTHING_GROWS = {("over lists", "open"), ("over lists", "clean")}
-# How many runs are begun before the answers of those before are looked at.
+# The number of runs that are begun before the answers of earlier ones are looked at.
 TOGETHER = 64
-# What a part has whole, and each how many-th growth of the others it has.
+# What a part tries whole, and the step between the growths that it tries of the others.
 WHOLE, STEP = "over lists", 10
 
 LIBRARY = r"""

@@ -92,7 +92,7 @@ def is_passed(line):
 
 
 def free_memory():
-    """How many bytes of memory are free, by what the system says."""
+    """The number of bytes of memory that are free, as the system says."""
     with open("/proc/meminfo", encoding="ascii") as file:
         found = re.search(r"MemAvailable:\s+(\d+) kB", file.read())
     return 1024 * int(found[1]) if found else 0

@@ -9,7 +9,8 @@ from typing import Optional
 from tests import soak_files, test_hostile
 from tests.soak_files import File
 
-# How many commands an archive gets before another is made, and in how many the versions of the sources rise by one.
+# The number of commands that an archive gets before another is made, and the number after which the versions of the
+# sources rise by one.
 PER_ARCHIVE, PACE = 100_000, 1000
 
 # The moment of an archive's first command, the seconds that a command may take, and those that sometimes pass at once.
@@ -25,7 +26,8 @@ SHARES = {
     "line": {**COMMANDS, "put": 20, "show": 6, "promote": 5},
 }
 
-# How many commands a stretch of each way has, and how often a list, a line, a request and the time between two are struck by a kill.
+# The number of commands of a stretch of each way, and how often a list, a line, a request and the time between two are struck by a
+# kill.
 LENGTHS = {"serve": (100, 400), "batch": (100, 600), "put": (2, 12), "line": (2, 6)}
 KILLED = {"batch": 0.5, "put": 0.5, "line": 0.2, "serve": 0.006, "between": 0.002}
 

@@ -14,15 +14,15 @@ from tests.soak_ways import Difference, asked
 
 DAY = 86_400
 
-# What the archive answers to what it takes, by requests, lines and lists.
+# The archive's answers to what it takes, by requests, lines and lists.
 NEW, AGAIN = b"new ", b"again "
 
 REPLY = re.compile(rb"HTTP/1\.1 (\d{3}) [^\r]*\r\n.*?\r\n\r\n(.*)\Z", re.S)
 
-# What a number is called that a command prints.
+# The word for a number that a command printed.
 DONE = {"copy": "copied", "remove": "removed", "clean": "cleaned"}
 
-# What those are answered that are not known.
+# The answers that are not known in full.
 ANSWERS = {
     "copy": rb"copied \d+ \S+\n|refused Q[678] .*\n",
     "remove": rb"removed [1-9]\d* \S+\n|refused Q(6|11) .*\n",
@@ -241,7 +241,7 @@ def shown(serving, looks):
     return texts
 
 
-# What is stored, in an order that no number of a row has a part in but those of what came and was judged.
+# What is stored, in an order that depends on no number of a row, except the numbers of what came and was judged.
 ROWS = {
     "arrivals": "SELECT a.name, a.moment, b.size, b.sha256 FROM arrivals a JOIN bodies b ON b.id = a.body ORDER BY a.id",
     "uploads": "SELECT name, sha256, place, verdict FROM uploads ORDER BY place, name, sha256",

@@ -31,13 +31,13 @@ REQUESTS = {
     "show": "GET /{}",
 }
 
-# What shows how an archive is, at little cost: each Release has the digests of all indices of its suite.
+# Paths that show the state of an archive at little cost: each Release has the digests of all indices of its suite.
 LOOKS = [*(get(f"dists/{suite}/Release") for suite in INDICES), get("queue"), get("verdicts")]
 
 # The commands whose lines have no moment.
 TIMELESS = {"show", "verdicts"}
 
-# How many connections a server has that is to be killed, and for how long a program may go on, in seconds.
+# The number of connections of a server that is to be killed, and how long a program may go on, in seconds.
 MANY, LONG = 1_000_000, 300
 
 
@@ -77,7 +77,7 @@ def request_of(command):
 
 
 def asked(serving, request):
-    """What is answered to a request. The archive may answer before it has all of it."""
+    """The answer to a request. The archive may answer before it has all of it."""
     client = serving.connected()
     with contextlib.suppress(ConnectionResetError, BrokenPipeError):
         client.sendall(request)
@@ -99,7 +99,7 @@ def cut(serving, command):
 
 
 def attacked(serving, command):
-    """What one of the hostile clients of test_hostile.py is answered."""
+    """The answer to one of the hostile clients of test_hostile.py."""
     kind, seed = command.words
     answered = getattr(test_hostile, kind)(serving.connected(), random.Random(seed))
     if not answered:
@@ -111,7 +111,7 @@ def attacked(serving, command):
 
 
 def answered(serving, command):
-    """What a command is answered over HTTP."""
+    """The answer to a command over HTTP."""
     if command.word == "cut":
         return cut(serving, command)
     return attacked(serving, command) if command.word == "hostile" else asked(serving, request_of(command))
@@ -128,7 +128,7 @@ def count_of_lines(command, following, lines):
 
 
 def divided(commands, text):
-    """What was printed, as the answers of commands: those that are whole, and what is left."""
+    """The printed text, as the answers of commands: those that are whole, and the rest."""
     lines = text.splitlines(keepends=True)
     answers, at = [], 0
     for command, following in zip(commands, [*commands[1:], None]):

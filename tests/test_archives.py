@@ -56,7 +56,7 @@ def rows_of(db, query):
 
 
 class Layouts(unittest.TestCase):
-    """What needs no program."""
+    """Tests that need no program."""
 
     def test_the_present_layout_has_a_file(self):
         for name in (f"{layout()}.db", f"{layout()}.expected", f"{layout()}.texts"):
@@ -94,7 +94,7 @@ class Shown(Lines):
         self.folder, self.db = room.name, f"{room.name}/box.db"
 
     def printed(self, words):
-        """What a command of these words prints, which ends well and says nothing on standard error."""
+        """What a command of these words prints; it has to end well and to say nothing on standard error."""
         word, *rest = words
         ran = subprocess.run([PROGRAM, word, "--db", self.db, *rest], cwd=ROOT, capture_output=True, check=False, timeout=120)
         self.assertEqual((ran.returncode, ran.stderr), (0, b""), words)

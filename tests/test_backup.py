@@ -27,7 +27,7 @@ from tests.wants import main, needs_file, needs_root
 
 TOOL = f"{ROOT}/bin/backup"
 BACKUP = tool("bin/backup")
-# How many backups of a server are killed, and within how many seconds.
+# The number of backups of a server that are killed, and the number of seconds for them.
 KILLS, KILLING = 200, 60
 NOBODY = 65534
 STAMP = r"\d{8}T\d{6}Z(-\d+)?"
@@ -357,7 +357,7 @@ class Holds(Case):
         return guard
 
     def test_both_are_asked_to_end(self):
-        """As systemd does it with all that a service has begun."""
+        """As systemd does with all processes of a service."""
         with Holder(self.db) as holder:
             process = self.stopped_backup(holder)
             for it in (self.guard_of(process.pid), process.pid):
@@ -409,7 +409,7 @@ class Holds(Case):
         return process
 
     def test_it_is_killed(self):
-        """And the next one finds nothing in its way."""
+        """The next backup finds nothing in its way."""
         for number in (signal.SIGKILL, signal.SIGTERM, signal.SIGINT, signal.SIGHUP):
             with Holder(self.db) as holder:
                 process = self.stopped_backup(holder)
@@ -467,7 +467,7 @@ class Holds(Case):
             holder.process.wait(SOON)
 
     def test_what_waits_for_it_goes_on_after_a_kill(self):
-        """Of the backup, and of its second process."""
+        """After a kill of the backup, and of its second process."""
         for act in (lambda process: process.kill(), lambda process: os.kill(self.guard_of(process.pid), signal.SIGKILL)):
             with self.waited_for(0, 0) as (holder, numbers):
                 process = self.started_and_stopped()
@@ -542,7 +542,7 @@ class Holds(Case):
         self.assertEqual(seen, [False, False])
 
     def test_one_that_reads_is_held_too(self):
-        """As sqlite3 with a lock of readers, beside another one."""
+        """A process that only reads, as sqlite3 with a lock of readers, beside another one."""
         self.write(7, 7)
         with open(self.db, "rb") as first, open(self.db, "rb") as second:
             child = os.fork()

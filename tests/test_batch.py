@@ -18,13 +18,13 @@ from uploads import uploads
 # The moment of all commands, in seconds since 1970-01-01 00:00:00 UTC.
 MOMENT = "1467436850"
 
-# How many commands the list has, and of how many uploads it delivers the files.
+# The number of commands of the list, and the number of uploads whose files it delivers.
 LINES, UPLOADS = 1000, 20
 
 # How often each command is given, on average, of a hundred.
 SHARES = {"put": 54, "promote": 2, "other": 4, "run": 8, "copy": 12, "remove": 6, "clean": 4, "waiting": 6, "verdicts": 4}
 
-# What a list calls a number that a command prints.
+# The word of a list for a number that a command prints.
 DONE = {"copy": "copied", "remove": "removed", "clean": "cleaned"}
 
 # How lines begin that the list has to print.
@@ -34,7 +34,8 @@ WORDS += [f"refused {fault} " for fault in ("Q1", "Q3 C1 P8", "Q6", "Q7", "Q8", 
 INDICES = [f"dists/{suite}/{name}" for suite in ("box", "lab") for name in ("Release", "main/binary-amd64/Packages", "main/source/Sources")]
 
 
-# How many steps of memory or of room below what a list needs are tried, and how many bytes a step of each has.
+# The number of steps of memory or of room below what a list needs that are tried, and the number of bytes of a step of
+# each.
 STEPS, MEMORY_STEP, ROOM_STEP = 24, 32_768, 8192
 
 

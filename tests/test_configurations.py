@@ -30,7 +30,7 @@ DEB = "pool/main/h/hello/hello_1.0-1_amd64.deb"
 # What may change a file or leave it for good: a kill comes at each of these calls.
 CALLS = ("pwrite64", "write", "fsync", "fdatasync", "ftruncate")
 
-# How many kills come at times.
+# The number of kills that come at random times.
 KILLS = 40
 
 ARM64 = """Format: 1.8

@@ -342,7 +342,7 @@ class Manifests(Exports):
             self.upload("hello", f"1.0-{2 + lines.index(line)}")
             self.export()
             self.assertEqual((self.file("pool/own"), read(f"{self.room}/own")), (b"own", b"own"))
-        # What a good line names goes.
+        # The files that a good line names are removed.
         write(path, first + b"left pool/own\n")
         self.upload("hello", "2.0-1")
         self.export()

@@ -593,7 +593,7 @@ class Gone(Hostile):
         return sorted(os.listdir(f"{self.tree}/dists"))
 
     def test_a_suite_that_is_gone(self):
-        """It goes, and what only it named goes by the rule of what is left."""
+        """The suite is removed, and what only it named goes by the rule for what is left."""
         self.line(0, "copy", self.db, *self.at(), "box", "lab", "hello")
         self.line(0, "remove", self.db, *self.at(), "box", "hello")
         self.check_exports(r"shown box .*\nshown lab .*\npool 0 1 0 0\n")
@@ -650,7 +650,7 @@ class Gone(Hostile):
         self.check_exports("same box\npool 0 1 0 0\n")
 
     def test_a_link_in_the_folder_of_a_state_that_goes(self):
-        """What it leads to stays."""
+        """The target of the link stays."""
         os.symlink(f"{self.outside.folder}/folder", f"{self.tree}/dists/{self.states['lab']}/link")
         os.mkfifo(f"{self.tree}/dists/{self.states['lab']}/main/fifo")
         self.drop()

@@ -125,7 +125,7 @@ class Planted(Exports):
         return outside
 
     def asked(self, serving, request):
-        """What is answered to a request: nothing, if the server is killed before."""
+        """The answer to a request: nothing, if the server is killed before."""
         start, reply = time.monotonic(), b""
         try:
             client = serving.connected()

@@ -162,7 +162,7 @@ class FailingCalls(Lines):
         return 2
 
     def failing(self, name, number):
-        """What fails a call of a name, counted from the program's start."""
+        """What makes a call of a name fail, counted from the program's start."""
         return under(self.trace, name, "-e", f"inject={name}:error={self.FAULT}:when={number}")
 
     def each_fails_once(self):

@@ -29,13 +29,13 @@ from tests.wants import main, needs_file
 FILES = sorted(pathlib.Path(ROOT, "tests/lines").glob("*.rows"))
 PROGRAMS = [os.path.abspath(it) for it in (PROGRAM, f"{PROGRAM}.by-rattle") if os.path.exists(it)]
 
-# How many bytes a file may have, for a program of which an output is cut.
+# The number of bytes that a file may have, for a program with an output that is cut.
 MOST = 1 << 26
 
-# How many seconds a line may take.
+# The number of seconds that a line may take.
 LONG = 60
 
-# How many bytes are shown of texts that differ, and how many of these at most before the first that does.
+# The number of bytes that are shown of texts that differ, and the most of these before the first that differs.
 SHOWN, BEFORE = 160, 80
 
 
@@ -55,7 +55,7 @@ def told(printed, errors, status):
 
 
 def tried(do, said=None):
-    """What is answered to something that is done with files: this word or, without one, what comes of it; or why it failed."""
+    """The answer to work with files: this word or, without one, the result; or why it failed."""
     try:
         found = do()
     except FileNotFoundError:
@@ -139,7 +139,7 @@ QUESTIONS = {
 
 
 def answer(folder, words):
-    """What is answered to the words of a row."""
+    """The answer to the words of a row."""
     question = QUESTIONS.get(words[0])
     if not question:
         raise Unread("the first word asks nothing")

@@ -26,7 +26,7 @@ MOVED, GONE = 1000, 87_400
 
 # What may change a file or leave it for good: a kill comes at each of these calls.
 CALLS = ("pwrite64", "write", "fsync", "fdatasync", "ftruncate")
-# How many kills come at times.
+# The number of kills that come at random times.
 KILLS = 20
 
 K2, K4, K5 = ((status, "", f"archive: {fault}\n") for status, fault in ((3, "K2"), (1, "K4"), (1, "K5")))
@@ -89,7 +89,7 @@ class Migrations(Words):
         return {it.name: it.read_bytes() for it in pathlib.Path(self.folder, "old").iterdir()}
 
     def migrate(self, text=BOX, at=MOVED, old=None, db=None):
-        """What a migration answers, which leaves the older file and what lies beside it as they are."""
+        """The answer of a migration, which has to leave the older file and the files beside it as they are."""
         before = self.held()
         answer = self.ran("migrate", "--from", old or self.old, "--db", db or self.db, "--at", str(at), self.conf(text))
         self.assertEqual(self.held(), before)
@@ -116,7 +116,7 @@ class Migrations(Words):
 
 
 class Made(Migrations):
-    """What is made of an older archive."""
+    """What is made from an older archive."""
 
     def test_it_shows_what_it_showed(self):
         for layout in LAYOUTS:

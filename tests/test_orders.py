@@ -20,7 +20,7 @@ from tests.wants import main, missing, needs_strict_tables
 from uploads import uploads
 
 SHUFFLES = 20
-# How many rows of each table are taken away or doubled.
+# The number of rows of each table that are taken away or doubled.
 OF_TABLE = 4
 # The moment of the archive, and one after it.
 AT, LATER = 1_467_436_850, 1_467_436_900
@@ -292,7 +292,7 @@ class Orders(unittest.TestCase):
         self.assertGreater(tried, 0)
 
     def test_a_row_less(self):
-        """And with it what refers to it, as the keys of the tables have it."""
+        """A row is taken away, and with it the rows that refer to it, as the keys of the tables have it."""
         for layout in NUMBERED:
             self.check_changed(layout, lambda held, table, rowid, layout=layout: take_away(held, layout, table, rowid))
 

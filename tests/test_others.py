@@ -37,7 +37,7 @@ INSERT INTO people VALUES ('Ann', x'00ff'), ('Bea', NULL);
 """
 KEPT = "notes", "people", "sqlite_sequence", "sqlite_stat1"
 
-# What stands on the archive's tables or refers to one, and what keeps an index of bodies from being one.
+# Tables and the like that are on the archive's tables or refer to one, and that keep an index of bodies from being one.
 REFUSED = (
     "CREATE INDEX moments ON arrivals (moment)",
     "CREATE INDEX long ON texts (path) WHERE length(body) > 5",

@@ -19,7 +19,7 @@ SMALL, LARGE = bytes(range(256)) * 256, bytes(range(256)) * 16_384
 # A file of which Linux says that it has 4,096 bytes, and that ends before.
 SHORT = "/sys/devices/system/cpu/online"
 
-# How many KiB more a body of 4 MiB may take than one of 64 KiB.
+# The number of KiB that a body of 4 MiB may take more than one of 64 KiB.
 MOST_MORE = 1024
 
 

@@ -20,7 +20,7 @@ HELD, BETWEEN = 0.4, 0.1
 # The sizes of the files of the tests, in bytes: a third of them all, and the rest.
 SIZES = {"one": 1000, "two": 2000}
 
-# How many bytes the largest file has, and how many of them make a database that takes long to open.
+# The number of bytes of the largest file, and the number of such files that make a database that takes long to open.
 LARGEST, MANY = 4_194_304, 9
 
 

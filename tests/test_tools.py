@@ -64,7 +64,7 @@ class Installing(unittest.TestCase):
         return printed.getvalue().splitlines()
 
     def said(self):
-        """What apt-get was asked, without what is the same each time."""
+        """The words of apt-get's calls, without those that are equal each time."""
         lines = (self.room / "said").read_text().splitlines() if (self.room / "said").exists() else []
         return [re.sub(r"-q -y (-o \S+ )+|--no-\S+ ", "", line) for line in lines]
 

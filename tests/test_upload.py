@@ -522,7 +522,7 @@ class Uploads(unittest.TestCase):
                 self.assertEqual(self.answered(lambda: itertools.chain([first], itertools.repeat(rest)), "--run"), (3, "", told, 1))
 
     def test_a_reply_that_is_none(self):
-        """It is asked again, until the time is over."""
+        """The request is repeated until the time is over."""
         head = b"HTTP/1.1 200 OK\r\n"
         for name, reply in (
             ("nothing", b""),

@@ -146,13 +146,13 @@ class States(Days):
 
 class Gone(Days):
     def found(self, *paths):
-        """How many of the secret's pieces are in these files, and in those of these folders."""
+        """The number of the secret's pieces that are in these files, and in the files of these folders."""
         files = [it for path in paths for it in ([path] if path.is_file() else path.rglob("*")) if it.is_file() and not it.is_symlink()]
         bodies = [it.read_bytes() for it in files]
         return sum(any(piece in body for body in bodies) for piece in self.pieces)
 
     def in_file(self):
-        """How many are in the database, and what is beside it."""
+        """The number that is in the database, and in the files beside it."""
         return self.found(*pathlib.Path(self.room.work).glob("box.db*"))
 
     @needs("sqlite3")

@@ -254,7 +254,7 @@ class Rules(Case):
         self.judged(hello("1.0-1"), "ready1.0-1")
         self.assertEqual(self.shell(snippet("promote to stable")), "2 hello\n")
         self.judged(hello("1.1-1"), "ready1.1-1")
-        # Of nobody an upload is taken in the suites that promotions fill.
+        # No upload is taken from anybody in the suites that promotions fill.
         self.ready(hello("1.2-1"), "ready1.2-1")
         path = pathlib.Path(self.room.work, "ready1.2-1/hello_1.2-1_amd64.changes")
         path.write_text(snippets.changed(path.read_text(), {"Distribution: box": "Distribution: stable"}))

@@ -235,7 +235,7 @@ class Proxy(unittest.TestCase):
         paths = [f"dists/box/{name}" for name in ("InRelease", "Release", "Release.gpg")]
         self.assertEqual([self.status(path) for path in (*paths, "box.gpg")], ["200"] * 4)
         self.site.sure(f"cd signed/dists/box; gpgv --keyring {self.site.keyring} Release.gpg Release")
-        # What is as it was is not signed anew, and what is another is.
+        # A Release that is as it was is not signed anew, and one that differs is.
         texts = [self.site.read(f"work/signed/{path}") for path in paths]
         self.site.sign()
         self.assertEqual([self.site.read(f"work/signed/{path}") for path in paths], texts)

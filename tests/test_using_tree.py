@@ -375,7 +375,7 @@ class ByHand(Case):
             raise missing("right of another user to run the program")
         self.shell(f"chown -R 65534:65534 .; {user} archive export --db box.db --signed www; {sign}")
         self.assertIn("shown box ", self.shell(f"{user} archive export --db box.db --signed www"))
-        # What a root does who forgets the user. Whoever forgets the signature, too, is refused.
+        # What happens if root forgets the user. Whoever forgets the signature, too, is refused.
         self.upload(uploads.Package("another"))
         told = "archive: suite box is signed in the tree: give --signed or --unsigned\n"
         self.assertEqual(self.room.run("archive export --db box.db www"), (1, "", told))

@@ -198,7 +198,7 @@ class Refused(Why):
             ({DEB: b"abc"}, {}, [f"file {DEB}", f"has no {CONTROL}"]),
             ({CONTROL: pair[CONTROL]}, {}, [f"file {CONTROL}", f"has no {DEB}"]),
             ({**pair, **tar}, {}, [f"file {TAR}", "is a source file without source"]),
-            # Of several parts the first, whatever is listed first.
+            # Of several parts the first counts, whatever is listed first.
             ({**tar, DEB: b"abc", **other}, {}, ["file old.changes", "is a .changes"]),
             ({CONTROL: pair[CONTROL], "b_1_all.deb": b"b", "a_1_all.deb": b"a"}, {}, ["file b_1_all.deb", "has no b_1_all.control"]),
         ]
@@ -219,7 +219,7 @@ class Refused(Why):
             (dsc_of({**tar, DEB: b"abc"}), {}, f"lists {DEB}"),
             (dsc_of(tar), {more: other}, f"does not list {more}"),
             (dsc_of({TAR: other}), {}, f"lists {TAR} as {print_of(other)}, not {print_of(TAR_BODY)}"),
-            # Of several parts the first.
+            # Of several parts the first counts.
             (dsc_of({DEB: b"abc"}, changes={"Source: hello": "Source: other", "\nVersion: 1": "\nVersion: 2"}), {}, "source other, not hello"),
             (dsc_of({TAR: other, DEB: b"abc"}), {more: other}, f"lists {DEB}"),
         ]
@@ -243,7 +243,7 @@ class Refused(Why):
             (i386, "hello_1.0-1_i386.control", "architecture i386 is not in the .changes"),
             (package(changes=other), CONTROL, "source other, not hello"),
             ({**package(), **package(version="1.0-2")}, "hello_1.0-2_amd64.control", f"is the second of hello amd64, beside {CONTROL}"),
-            # Of several parts the first, of the first file that has one; two of a kind come last.
+            # Of several parts the first counts, of the first file that has one; two of a kind come last.
             ({**i386, **package(changes=other)}, "hello_1.0-1_i386.control", "architecture i386 is not in the .changes"),
             ({**package(), **package(version="1.0-2"), **package("bee", changes=other)}, "bee_1.0-1_amd64.control", "source other, not hello"),
         ]
@@ -342,7 +342,7 @@ class Cleaned(Why):
         good = record(package())
         self.judge(1, package(), bad, "bad.changes")
         self.judge(0, package(), good, "good.changes")
-        # What has ended and was not cleaned is there still.
+        # What has ended and was not cleaned is still there.
         shown = judged("good.changes", good, 0, "shown box hello 1.0-1 amd64")
         self.check([shown], "--at", str(10 * DAY), "good.changes")
         self.line(0, "clean", self.db, "--at", str(1 + DAY))
@@ -414,7 +414,7 @@ class Waiting(Why):
             self.check([waits(CHANGES, body, ("ended", DEB, b"abc"), ("came", DEB, b"counts"))], "--at", str(DAY + 1), *words)
         self.check([], "--at", str(DAY + 2))
         self.assertEqual(self.ran("why", "--db", self.db, "--at", str(DAY + 2), CHANGES), NOT_FOUND)
-        # What was cleaned is as if it had not come, and nothing ends if no moment is said.
+        # What was cleaned counts as if it had not come, and nothing ends if no moment is given.
         self.line(0, "clean", self.db, "--at", str(DAY + 1))
         self.check([waits(CHANGES, body, ("lacks", DEB, b"abc"), ("came", DEB, b"counts"))], CHANGES)
         self.put({DEB: b"abc"}, at=DAY + 1)

@@ -546,7 +546,8 @@ class Uploads(unittest.TestCase):
         self.assertEqual((set(statuses), min(statuses.values()) > 50), ({0, 1}, True), statuses)
 
     def test_what_is_told_has_no_control_character(self):
-        """Of a long text it has the beginning. A file name that is taken for an option is one of these texts, too."""
+        """Of a long text the beginning is printed. A file name that is taken for an option is one of these texts,
+        too."""
         changes = self.changes()
         good = changes.read_text()
         changes.write_text(f"{good}no field \x1b]0;pwned\x07\x7f\x9b\n")

@@ -69,12 +69,12 @@ def needs_dput(package):
 
 
 def missing(what):
-    """What a test raises that finds out as it goes that something is not there."""
+    """The exception of a test that finds out as it runs that something is not there."""
     return unittest.SkipTest(f"there is no {what}")
 
 
 def no_file_system():
-    """What a test raises that can't mount a file system."""
+    """The exception of a test that can't mount a file system."""
     return missing("right to mount a file system, which root has outside of most containers")
 
 

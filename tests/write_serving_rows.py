@@ -169,7 +169,7 @@ class Keeper:
         self.say(f"show {package.path} = {quoted(package.deb)}\n")
 
     def complete(self, package):
-        """What a package still lacks. Before the last file of a new one comes, it waits."""
+        """The files that a package still lacks. Before the last file of a new one comes, it waits."""
         kinds = self.arrived.get(package.file, set())
         if not kinds:
             self.deliver(package, "changes", "control")

@@ -6,7 +6,7 @@ use Rattle.suites.proofs.HeldLemmas.{any-append, or_none}
 use Rattle.std.proofs.lemmas.Bool.{or_right, or_left}
 
 module _ {A X : Type 0} (shows : A → X) (test : X → Bool) where
-  -- one more that fails the test leaves none that passes
+  -- if none passes, and one more fails the test, still none passes
   pub none_more : (before : List A) (x : A) → list_any test (map shows before) ≡ false → test (shows x) ≡ false → list_any test (map shows (before ++ x ∷ [])) ≡ false
   none_more before x none failed =
       ap (list_any test) (map-append shows before (x ∷ []))
