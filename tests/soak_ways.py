@@ -1,5 +1,6 @@
 """An archive in a database file, and the ways in which soak.py gives it commands: requests to `serve`, a list to `batch`, files to
-one `put`, and lines of their own. It may be killed where commands have a kill; another gets the same without.
+one `put`, and lines of their own. It may be killed at commands that have a kill; another archive gets the same commands without
+kills.
 
 In an archive that is killed, what had no answer is given again. The other archive is given the same command twice, so that it shows what
 the second answer is. It also shows its contents before, between and after."""
