@@ -132,6 +132,13 @@ fn send<W: Write>(writer: &mut W, reply: &Reply) -> Result<Served, DeskFault>
     }
 }
 
+/// Has the desk remember a call that may change what suites show.
+fn note_change(desk: &Desk, wanted: &Wanted) {
+    if wanted.may_change() {
+        desk.note_change();
+    }
+}
+
 /// Reads one request, carries it out, and has the reply.
 fn reply_to<K: Keeper, R: Read>(
     alloc: Global,
@@ -151,6 +158,7 @@ fn reply_to<K: Keeper, R: Read>(
         Ok(Request::Nothing) => Ok(None),
         Ok(Request::Refused(refusal)) => Ok(Some(Reply::to_refusal(refusal))),
         Ok(Request::Asks(wanted)) => {
+            note_change(desk, &wanted);
             let reply = carry_out(alloc, archive, &wanted, reader, moment)?;
             Ok(Some(reply))
         }

@@ -116,6 +116,23 @@ pub enum Wanted {
     },
 }
 
+impl Wanted {
+    /// Whether the call may change what suites show. These are the calls whose method is POST.
+    pub fn may_change(&self) -> bool {
+        match self {
+            Wanted::Run
+            | Wanted::Copy { .. }
+            | Wanted::Clean
+            | Wanted::Remove { .. }
+            | Wanted::Promote { .. } => true,
+            Wanted::Deliver { .. }
+            | Wanted::Fetch { .. }
+            | Wanted::Waiting
+            | Wanted::Verdicts => false,
+        }
+    }
+}
+
 /// Reads a whole head. It checks the target, then the Transfer-Encoding, the route, the parameters of the route, the method and the
 /// Content-Length. The first check that fails says why the head is refused.
 pub fn read_wanted(alloc: Global, desk: &Desk, head: &[u8]) -> Result<Wanted, Refusal>

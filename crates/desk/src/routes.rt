@@ -8,6 +8,7 @@ ghost use Rattle.desk.specs.Want.{add_routes, method_of, route_texts, routes};
 use http::Method;
 use matchit::{InsertError, Router};
 use std::alloc::{AllocError, Global};
+use std::cell::Cell;
 
 /// The commands that have a route.
 #[derive(Clone, Copy, Debug, PartialEq, Eq)]
@@ -77,10 +78,12 @@ fn router(alloc: Global) -> Result<Router<Route>, InsertError>
     Ok(router)
 }
 
-/// The desk that answers requests. Its router of all routes is made once and serves any number of connections.
+/// The desk that answers requests. Its router of all routes is made once and serves any number of connections. It remembers whether the
+/// archive was handed a call that may change what suites show.
 #[derive(Drop)]
 pub struct Desk {
     router: Router<Route>,
+    has_change: Cell<bool>,
     ghost all: { router ≡ routes },
 }
 
@@ -88,7 +91,10 @@ impl Desk {
     /// A desk with all routes.
     pub fn new(alloc: Global) -> Result<Desk, AllocError> {
         match router(alloc) {
-            Ok(router) => Ok(Desk { router }),
+            Ok(router) => Ok(Desk {
+                router,
+                has_change: Cell::new(false),
+            }),
             Err(_) => Err(AllocError),
         }
     }
@@ -98,5 +104,15 @@ impl Desk {
         ensures { result.now ≡ routes }
     {
         &self.router
+    }
+
+    /// Remembers that the archive is handed a call that may change what suites show.
+    pub fn note_change(&self) {
+        self.has_change.set(true);
+    }
+
+    /// Whether the archive was handed a call that may change what suites show, since this was asked last.
+    pub fn takes_change(&self) -> bool {
+        self.has_change.replace(false)
     }
 }

@@ -59,8 +59,8 @@ impl Before {
     }
 }
 
-/// The first line that a client sends, for the log, and to know a POST by. Empty lines before it are passed over, as they are where the
-/// request is read. Of a request that httparse refuses, or that is cut short, the log has the words of this line all the same.
+/// The first line that a client sends, for the log alone: what the request asks for is read by the desk. Empty lines before the line are
+/// passed over, as the desk does. The log has the words of this line even if the desk refuses the request, or if it is cut short.
 #[derive(Drop)]
 pub struct FirstLine {
     before: Before,

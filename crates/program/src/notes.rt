@@ -1,4 +1,5 @@
-//! What is noted of connections: a line of the log for each, if that is wanted, whether one had a POST, and which export after one failed.
+//! What is noted of connections: a line of the log for each, if that is wanted, whether one may have changed what suites show, and which
+//! export after one failed.
 
 use crate::log::{Ended, Log};
 use std::alloc::Global;
@@ -9,7 +10,7 @@ use std::io::Write;
 pub struct Notes<'l, E> {
     log: Log<'l, E>,
     is_logged: bool,
-    has_post: bool,
+    has_change: bool,
 }
 
 impl<'l, E: Write> Notes<'l, E> {
@@ -18,7 +19,7 @@ impl<'l, E: Write> Notes<'l, E> {
         Notes {
             log,
             is_logged,
-            has_post: false,
+            has_change: false,
         }
     }
 
@@ -27,11 +28,9 @@ impl<'l, E: Write> Notes<'l, E> {
         self.is_logged
     }
 
-    /// Notes the first line that a client sent.
-    pub fn note_line(&mut self, line: &[u8]) {
-        if line.starts_with(b"POST ") {
-            self.has_post = true;
-        }
+    /// Notes that a connection may have changed what suites show.
+    pub fn note_change(&mut self) {
+        self.has_change = true;
     }
 
     /// Writes the line of a connection.
@@ -47,10 +46,10 @@ impl<'l, E: Write> Notes<'l, E> {
         }
     }
 
-    /// Whether a connection had a POST since this was asked last.
-    pub fn takes_post(&mut self) -> bool {
-        let has_post = self.has_post;
-        self.has_post = false;
-        has_post
+    /// Whether a connection may have changed what suites show, since this was asked last.
+    pub fn takes_change(&mut self) -> bool {
+        let has_change = self.has_change;
+        self.has_change = false;
+        has_change
     }
 }

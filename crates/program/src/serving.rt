@@ -232,7 +232,9 @@ fn answer_client<R: Clock + AllocGlobal, K: Keeper, E: Write>(
     if let Ok(Served::Status(_)) = end {
         let _ = part(&client);
     }
-    notes.note_line(line.as_bytes());
+    if visit.desk.takes_change() {
+        notes.note_change();
+    }
     if notes.is_logged() {
         let ended = Ended {
             moment: visit.moment,

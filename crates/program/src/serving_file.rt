@@ -4,7 +4,7 @@
 //! then opened again, and the rest of the connections is answered from what is in the file: the book before the failed call, or with it. A
 //! full disk shuts no keeper.
 //!
-//! With a folder to export to, connections are served one by one, and the folder is exported to behind each that had a POST, before the next
+//! With a folder to export to, connections are served one by one, and the folder is exported to after each that may have changed what suites show, before the next
 //! is accepted: a reply does not wait for it. It is a look at each suite's Release where nothing changed.
 //!
 //! The listener is made before the archive is opened, and ends last, so that clients wait in the system's queue meanwhile. If both fail,
@@ -86,7 +86,7 @@ fn export_to<K: Keeper, E: Write>(
     }
 }
 
-/// Serves a connection of a listener, and exports behind it if it had a POST.
+/// Serves a connection of a listener, and exports after it if it may have changed what suites show.
 fn serve_one<'a, K: Keeper, E: Write>(
     rt: &HostRuntime,
     archive: &mut Archive<K>,
@@ -101,13 +101,13 @@ fn serve_one<'a, K: Keeper, E: Write>(
     ensures file { moments.new.file ≡ moments.old.file }
 {
     serve_listener(rt, archive, listener, 1, moments, notes)?;
-    if notes.takes_post() {
+    if notes.takes_change() {
         export_to(rt, archive, tree, moments.last(), notes);
     }
     Ok(())
 }
 
-/// Serves so many connections of a listener, one by one, and exports behind each that had a POST.
+/// Serves `left` connections of a listener, one by one, and exports after each that may have changed what suites show.
 fn serve_and_export<'a, K: Keeper, E: Write>(
     rt: &HostRuntime,
     archive: &mut Archive<K>,
