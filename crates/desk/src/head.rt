@@ -125,10 +125,8 @@ impl Wanted {
             | Wanted::Clean
             | Wanted::Remove { .. }
             | Wanted::Promote { .. } => true,
-            Wanted::Deliver { .. }
-            | Wanted::Fetch { .. }
-            | Wanted::Waiting
-            | Wanted::Verdicts => false,
+            Wanted::Deliver { .. } | Wanted::Fetch { .. } | Wanted::Waiting | Wanted::Verdicts =>
+                false,
         }
     }
 }

@@ -22,8 +22,7 @@ mod ways;
 mod writing;
 
 pub use disk::Disk;
-pub use fault::{FolderFault, at};
-pub use file_id::{FileId, id_of};
+pub use fault::FolderFault;
+pub use file_id::id_of;
 pub use folder::Folder;
 pub use kept::Kept;
-pub use names::inside;

@@ -6,6 +6,7 @@ mod by_hash;
 mod leaving;
 mod looking;
 mod mending;
+mod paths;
 mod placing;
 mod planning;
 mod site;

@@ -3,6 +3,7 @@
 //! The word of the manifest counts if the disk still has a regular file of that size, modified at that moment. Any other file is read,
 //! and known by its print.
 
+use crate::paths::cut;
 use exported::{Manifest, Stamp, Vouched, Word};
 use folders::{Disk, Folder, FolderFault};
 use std::collections::BTreeMap;
@@ -102,14 +103,6 @@ struct Near<R: Disk> {
     above: Option<Folder<R>>,
     path: String,
     folder: Option<Folder<R>>,
-}
-
-/// A path, cut into that of the folder above and the name in it.
-fn cut(path: &str) -> (&str, &str) {
-    match path.rsplit_once('/') {
-        Some((folder, name)) => (folder, name),
-        None => ("", path),
-    }
 }
 
 impl<R: Disk> Near<R> {

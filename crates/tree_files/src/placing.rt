@@ -1,6 +1,7 @@
 //! Files, links and folders, as they come to their places in a tree and leave them.
 
 use crate::looking::{here, stamp_of};
+use crate::paths::{MANIFEST, cut};
 use crate::site::Site;
 use crate::states::Wanted;
 use crate::writing::touch_release;
@@ -8,14 +9,6 @@ use exported::{Manifest, Word, folder_of, is_state_of, new_name};
 use folders::{Disk, FolderFault};
 use std::alloc::{AllocError, Global};
 use suites::{PoolFile, Shelves};
-
-/// The folder that a file of the pool lies in, and its name there.
-fn cut(path: &str) -> (&str, &str) {
-    match path.rsplit_once('/') {
-        Some((folder, name)) => (folder, name),
-        None => ("", path),
-    }
-}
 
 /// Puts a file of the pool at its path. It answers what the manifest may vouch for, if it is synced.
 fn put_file<R: Disk>(
@@ -153,9 +146,6 @@ pub fn leave(
     tell_shown(alloc, suites, manifest)?;
     Ok(paths.len())
 }
-
-/// The name of the manifest among the files of exports.
-const MANIFEST: &str = "files";
 
 /// Writes the manifest, if it is other than the one on the disk.
 pub fn save<R: Disk>(rt: &R, site: &Site<R>, manifest: &mut Manifest) -> Result<(), FolderFault> {

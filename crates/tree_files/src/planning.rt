@@ -1,5 +1,6 @@
 //! What an export is to do in a tree, by what is there.
 
+use crate::paths::MANIFEST;
 use crate::states::{Standing, Wanted};
 use exported::Manifest;
 use folders::{Disk, Folder, FolderFault};
@@ -24,7 +25,7 @@ pub struct Counts {
 
 /// The manifest of a tree.
 pub fn manifest_of<R: Disk>(rt: &R, own: &Folder<R>) -> Result<Manifest, FolderFault> {
-    let bytes = own.bytes(rt, "files", MOST_OF_MANIFEST)?;
+    let bytes = own.bytes(rt, MANIFEST, MOST_OF_MANIFEST)?;
     let text = match &bytes {
         Some(bytes) => Some(bytes.as_slice()),
         None => None,
