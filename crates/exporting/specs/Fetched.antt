@@ -6,7 +6,7 @@ use Rattle.queue.specs.Steps.{Does}
 use Rattle.texts.specs.Indices.{path_in}
 use Rattle.exported.specs.Names.{state_name}
 
--- Behind each history whose book is kept, these are the bytes that its plain archive has at the path.
+-- After each history whose book is kept, these are the bytes that its plain archive has at the path.
 abbrev pub IsFetched : {K : Type 0} (g : Ghosts K) (old : K) (path body : List ℕ) (new : K) → Type 0
 IsFetched g old path body new = Does g old (Lookup path) (Ok (Found (Some body))) new
 

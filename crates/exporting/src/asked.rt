@@ -1,4 +1,4 @@
-//! What an export is asked for, and what its steps are made by.
+//! What an export is asked for, and what its steps need.
 
 use folders::Disk;
 use suites::Shelves;
@@ -9,7 +9,7 @@ use tree_files::{Site, Wanted};
 pub struct Export<'a> {
     /// The folder of the tree. It and those above it are made, if they are not there.
     pub folder: &'a str,
-    /// The moment at which uploads wait, in seconds since 1970-01-01 00:00:00 UTC. It is of no matter to anything else.
+    /// The moment at which uploads wait, in seconds since 1970-01-01 00:00:00 UTC. Nothing else depends on it.
     pub at: u64,
     /// Whether a suite shows a state only once an InRelease lies in its folder.
     pub signed: bool,
@@ -21,19 +21,20 @@ pub struct Export<'a> {
     pub database: &'a str,
 }
 
-/// Who is told how far an export is.
+/// Whoever watches how far an export is.
 pub trait Watcher {
-    /// So many steps are to be made: a file of the pool is written or removed, or a suite is made to show another state.
+    /// The number of steps that are to be made. In each, a file of the pool is written or removed, or a suite is made to show another
+    /// state.
     fn is_to_make(&mut self, steps: u64);
 
-    /// One of them is made.
+    /// One of the steps is made.
     fn has_made(&mut self);
 
     /// No more is made. What the export prints comes next.
     fn has_ended(&mut self);
 }
 
-/// Nobody, who is told nothing.
+/// A watcher that does nothing.
 #[derive(Clone, Copy, Debug)]
 pub struct Nobody;
 
@@ -45,7 +46,7 @@ impl Watcher for Nobody {
     fn has_ended(&mut self) {}
 }
 
-/// What the steps of an export are made by.
+/// What the steps of an export need.
 #[derive(Drop)]
 pub struct Job<'j, R: Disk> {
     pub site: &'j Site<R>,

@@ -24,11 +24,11 @@ use tree_files::{
     look, manifest_of, opened_folders, remove_cut, remove_old_states, save, steps_of,
 };
 
-/// The most files of the pool that one export has on the disk before an index names them. Where more are new, none of them is synced:
-/// the next export reads them back.
+/// The most new files of the pool that one export syncs before an index names them. If there are more, none of them is synced, and the next
+/// export reads them back.
 const MOST_SYNCED: usize = 256;
 
-/// The folder of a tree without the slashes behind it. An empty path leads to no folder.
+/// The path of a tree's folder without the slashes at its end. An empty path is refused as `Place`.
 fn root_of<'a>(alloc: Global, folder: &'a str) -> Result<&'a str, ExportFault> {
     if folder.is_empty() {
         return Err(ExportFault::Place(String::new(alloc)));
@@ -54,7 +54,7 @@ struct Done {
     counts: Counts,
 }
 
-/// Makes the steps, and what comes after them. It answers how many paths are left.
+/// Makes the steps, and what comes after them. Answers how many paths are left.
 fn make<R: Disk, K: Keeper, T: Watcher>(
     rt: &R,
     archive: &mut Archive<K>,
@@ -84,7 +84,8 @@ fn prepare<R: Disk>(
     Ok(leave_suites(rt, job.site, job.suites, manifest)?)
 }
 
-/// The suites of the archive, with what they show, their states mended. Suites that are signed are refused, if that is asked.
+/// The suites of the archive, with what they show. Their states are mended. Signed suites are refused, if neither `signed` nor `unsigned`
+/// is asked for.
 fn found_suites<R: Disk, K: Keeper>(
     rt: &R,
     archive: &mut Archive<K>,
@@ -103,7 +104,7 @@ fn found_suites<R: Disk, K: Keeper>(
     Ok(suites)
 }
 
-/// Exports what shelves show that are those of the archive, but for the pages of the tree.
+/// Exports what the shelves of the archive show, but for the pages of the tree.
 fn make_all<R: Disk, K: Keeper, T: Watcher>(
     rt: &R,
     archive: &mut Archive<K>,
@@ -135,7 +136,7 @@ fn make_all<R: Disk, K: Keeper, T: Watcher>(
     })
 }
 
-/// What a call of the output gave, or that it failed.
+/// What a call of the output gave, or `Unwritten` if it failed.
 fn said(done: io::Result<()>) -> Result<(), ExportFault> {
     match done {
         Ok(()) => Ok(()),
@@ -206,7 +207,7 @@ fn print_done<R: Disk, W: io::Write>(
     print_counts(done.counts, out)
 }
 
-/// Exports what shelves show that are those of the archive.
+/// Exports what the shelves of the archive show, and prints what its suites show.
 fn export_shelves<R: Disk, K: Keeper, W: io::Write, T: Watcher>(
     rt: &R,
     archive: &mut Archive<K>,
@@ -262,13 +263,13 @@ fn site_of<R: Disk>(
 
 /// Exports an archive into a folder, and prints what its suites show: `shown CODENAME STATE`, `same CODENAME` or `waits CODENAME STATE` for
 /// each, in the order of the configuration. After a state without a signature, if the one before had one, comes `unsigned CODENAME`, and
-/// `mended CODENAME COUNT` if so many texts of the state were damaged. Then comes `gone CODENAME` for each suite of the tree that the
-/// configuration no longer has. Last comes `pool NEW SAME LEFT GONE`: how many files of the pool were written, how many were there, how many
-/// are left that are no more of it, and how many went. How far it is comes to `watcher` meanwhile.
+/// `mended CODENAME COUNT` if COUNT texts of the state, more than 0, were damaged. Then comes `gone CODENAME` for each suite of the tree
+/// that the configuration no longer has. Last comes `pool NEW SAME LEFT GONE`: how many files of the pool were written, how many were
+/// there, how many are left that no longer belong to it, and how many were removed. Its progress is reported to `watcher`.
 ///
 /// The archive stays as it is. Refused as `Archive(Fault::Moment)` for a moment after 2099, as `Named` if no tree can have a component, as
-/// `Signed` if a suite of the tree is signed and nothing is said of that, as `Archive` if the keeper fails, as `Place` if the disk does or
-/// another export goes on in the folder, as `Unwritten` if the output fails, and for want of memory.
+/// `Signed` if a suite of the tree is signed and neither `signed` nor `unsigned` is asked for, as `Archive` if the keeper fails, as `Place`
+/// if the disk fails or another export goes on in the folder, as `Unwritten` if the output fails, and for want of memory.
 pub fn export<K: Keeper, W: io::Write, T: Watcher>(
     rt: &HostRuntime,
     archive: &mut Archive<K>,

@@ -10,12 +10,13 @@ use std::fmt;
 /// Why an export ends before it is done. What it has made till then stays, and the next one goes on from there.
 #[derive(Debug, Drop)]
 pub enum ExportFault {
-    /// Nothing can be written at this path: the disk is full or fails, there is no right to, a link or a file stands at the place of a folder or
-    /// a folder at that of a file, the file is the database's, or another export holds the lock. It is the first path that failed.
+    /// Nothing can be written at this path: the disk is full or fails, permission is denied, a link or a file stands at the place of a
+    /// folder or a folder at that of a file, the file is the database's, or another export holds the lock. It is the first path that
+    /// failed.
     Place(String),
-    /// The suite of this codename shows a signed state, and the export is told neither to wait for signatures nor to do without them.
+    /// The suite of this codename shows a signed state, and the export is asked neither to wait for signatures nor to do without them.
     Signed(String),
-    /// A component has this name, which is that of a file beside those of components.
+    /// A component has this name, which is that of a file in the folder of a state.
     Named(String),
     /// The archive refused a call.
     Archive(Fault),

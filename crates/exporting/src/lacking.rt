@@ -1,4 +1,4 @@
-//! What the uploads lack that wait, for the page of uploads.
+//! What waiting uploads lack, for the page of uploads.
 
 ghost use Rattle.std.specs.Prelude.{◌≡◌};
 ghost use Rattle.queue.specs.Steps.{Reads};
@@ -20,7 +20,7 @@ fn under_name<'a>(arrived: &'a [ArrivedFile], name: &str) -> &'a [ArrivedFile] {
     rest.get(..count).unwrap_or(&[])
 }
 
-/// Appends the name of a file, behind a blank where it is not the first.
+/// Appends the name of a file, after a blank if it is not the first.
 fn push_name(names: &mut String, name: &str) -> Result<(), AllocError> {
     if !names.is_empty() {
         names.push(' ')?;
@@ -28,8 +28,7 @@ fn push_name(names: &mut String, name: &str) -> Result<(), AllocError> {
     names.push_str(name)
 }
 
-/// The names of the listed files of which nothing counts that arrived, with a blank between each two. What arrived is in the order of its
-/// names.
+/// The names of the listed files of which no arrival counts, with a blank between each two. The arrivals are in the order of their names.
 fn lacking_names(
     alloc: Global,
     arrived: &[ArrivedFile],
@@ -46,7 +45,7 @@ fn lacking_names(
     Text::new(alloc, names.as_str())
 }
 
-/// What an upload lacks that waits. There is nothing to say if its .changes is gone.
+/// What a waiting upload lacks, or `None` if its .changes is gone.
 fn lacking_of<K: Keeper>(
     alloc: Global,
     archive: &mut Archive<K>,
@@ -65,7 +64,7 @@ fn lacking_of<K: Keeper>(
     Ok(Some(Lacking { name, files }))
 }
 
-/// Appends what an upload lacks that waits.
+/// Appends what a waiting upload lacks.
 fn push_lacking<K: Keeper>(
     alloc: Global,
     archive: &mut Archive<K>,
@@ -82,7 +81,7 @@ fn push_lacking<K: Keeper>(
     Ok(())
 }
 
-/// Appends what each of these uploads lacks. What arrived is in the order of its names.
+/// Appends what each of these uploads lacks. The arrivals are in the order of their names.
 #[tactic(auto, using(keep::proofs::ReadLemmas::reads_none, keep::proofs::ReadLemmas::reads_more))]
 fn push_all_lacking<K: Keeper>(
     alloc: Global,
@@ -100,7 +99,7 @@ fn push_all_lacking<K: Keeper>(
     Ok(())
 }
 
-/// The uploads that wait, of those that a keeper says wait at a moment, with what they lack. Where none waits, what arrived is not read.
+/// The uploads that wait, of those that a keeper says wait at a moment, with what they lack. If none waits, the arrivals are not read.
 pub fn lacking_uploads<K: Keeper>(
     alloc: Global,
     archive: &mut Archive<K>,

@@ -12,7 +12,7 @@
 //! that name is that state, and nothing else is compared.
 //!
 //! An export writes the files of the pool that are not there, has each suite that changed show its new state by the rename of one link, and
-//! removes what no index has named since the export before that showed something. `tree` has these steps, and says what a reader finds
+//! removes what no index has named since the previous export that showed something. `tree` has these steps, and says what a reader finds
 //! between them. Each file is written beside its place and renamed there. So an export may be stopped anywhere, and the next one goes on.
 //!
 //! The texts of the states that are there are compared with the archive's, and mended. A suite that the configuration no longer has leaves the

@@ -16,7 +16,7 @@ use std::alloc::Global;
 use texts::path_in;
 use tree_files::{PAGE, Wanted, add_by_hash, move_state, touch_release, write_in};
 
-/// The bytes at a path of the archive, which has some there. An export has no others.
+/// The bytes at a path of the archive. An export asks for those that the archive has: any other path is refused as `Place`.
 pub fn body_at<K: Keeper>(
     alloc: Global,
     archive: &mut Archive<K>,
@@ -132,14 +132,14 @@ fn make_folder_of<R: Disk, K: Keeper>(
     let new = new_name(rt.alloc(), suite.codename.as_str())?;
     let filled = make_filled(rt, archive, job, suite, new.as_str());
     if filled.is_err() {
-        // What is cut takes room on a full disk. If it stays, the next export removes it.
+        // A folder that is cut short takes room on a full disk. If it stays, the next export removes it.
         let _ = job.site.dists.remove_all(rt, &job.site.kept, new.as_str());
     }
     filled?;
     Ok(move_state(rt, job.site, new.as_str(), suite.state.as_str())?)
 }
 
-/// Has the state be there that a suite is to show.
+/// Makes the state that a suite is to show, unless it is there, and adds its names by digest if that is asked.
 pub fn make_state<R: Disk, K: Keeper>(
     rt: &R,
     archive: &mut Archive<K>,

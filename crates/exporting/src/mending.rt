@@ -12,7 +12,7 @@ use queue::Archive;
 use suites::Shelves;
 use tree_files::{PAGE, Site, Wanted, mend_file};
 
-/// Has a text of a state be there as the archive has it. It answers how many it mended.
+/// Mends a text of a state, if it is not as the archive has it. Answers how many it mended: 1 or 0.
 fn mend_text<R: Disk, K: Keeper>(
     rt: &R,
     archive: &mut Archive<K>,
@@ -27,7 +27,7 @@ fn mend_text<R: Disk, K: Keeper>(
     Ok(mend_file(rt, site, state, path, &body)?)
 }
 
-/// Has the texts of a state be there as the archive has them. It answers how many it mended.
+/// Mends the texts of a state that are not as the archive has them. Answers how many those are.
 #[tactic(auto, using(keep::proofs::ReadLemmas::reads_none, keep::proofs::ReadLemmas::reads_more))]
 fn mend_texts<R: Disk, K: Keeper>(
     rt: &R,
@@ -53,7 +53,8 @@ fn mend_texts<R: Disk, K: Keeper>(
     Ok(count)
 }
 
-/// Has the page of a state be a file. What a file has that is there is not looked at.
+/// Writes the page of a state, if there is no file of its name. The contents of one that is there are not looked at. Answers how many pages
+/// it wrote: 1 or 0.
 fn mend_page<R: Disk, K: Keeper>(
     rt: &R,
     archive: &Archive<K>,
@@ -69,7 +70,7 @@ fn mend_page<R: Disk, K: Keeper>(
     Ok(mend_file(rt, site, state, PAGE, page.as_bytes())?)
 }
 
-/// Has the page and the texts of a suite's state be there as they are to be, if the state is made. It answers how many were mended.
+/// Mends the page and the texts of a suite's state, if the state is made. Answers how many were mended.
 fn mend_state<R: Disk, K: Keeper>(
     rt: &R,
     archive: &mut Archive<K>,
@@ -92,7 +93,7 @@ fn mend_state<R: Disk, K: Keeper>(
     Ok(texts.saturating_add(pages))
 }
 
-/// Has each state that is made be as it is to be, and each suite know how many of its texts were mended.
+/// Mends each state that is made, and notes in each suite how many of its texts were mended.
 #[tactic(auto, using(keep::proofs::ReadLemmas::reads_none, keep::proofs::ReadLemmas::reads_more))]
 pub fn mend_states<R: Disk, K: Keeper>(
     rt: &R,

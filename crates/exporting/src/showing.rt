@@ -14,8 +14,8 @@ use suites::PoolFile;
 use tree::Step;
 use tree_files::{Standing, place, remove_left, show_state};
 
-/// Writes a file of the pool. Where it is synced the manifest may vouch for it; else it stays one that is coming, and is read by the next
-/// export.
+/// Writes a file of the pool. If it is synced, the manifest may vouch for it. Else it stays one that is coming, and the next export reads
+/// it.
 fn place_file<R: Disk, K: Keeper>(
     rt: &R,
     archive: &mut Archive<K>,
@@ -63,7 +63,7 @@ fn make_step<R: Disk, K: Keeper>(
     }
 }
 
-/// Makes steps in their order, and says of each that it is made.
+/// Makes steps in their order, and reports each to the watcher.
 #[tactic(auto, using(keep::proofs::ReadLemmas::reads_none, keep::proofs::ReadLemmas::reads_more))]
 pub fn make_steps<R: Disk, K: Keeper, T: Watcher>(
     rt: &R,
@@ -84,7 +84,8 @@ pub fn make_steps<R: Disk, K: Keeper, T: Watcher>(
     Ok(())
 }
 
-/// Has the states be there that wait for a signature, and the texts of those that are shown by their digests.
+/// Makes the states that wait for a signature. If names by digest are asked for, it adds them to those states, and to the ones that are
+/// shown already.
 #[tactic(auto, using(keep::proofs::ReadLemmas::reads_none, keep::proofs::ReadLemmas::reads_more))]
 pub fn make_others<R: Disk, K: Keeper>(
     rt: &R,

@@ -1,4 +1,4 @@
--- Connections that were served within moments, and others behind them.
+-- Connections that were served within moments, and others after them.
 use Rattle.std.proofs.Common.{◌≤◌, ◌+◌, ℕ, List, All, arith}
 use Rattle.desk.specs.Connections.{HasServed, IsClientsWithin, NeverFall, Visit}
 use Rattle.desk.proofs.ConnectionLemmas.{two_turns}
@@ -16,7 +16,7 @@ at_one_moment moment vs all = λ i j d below within.
     omega (arith, earlier.to_last, later.from_first)
 
 module _ {K : Type 0} (g : Ghosts K) where
-  -- one more connection, behind the last moment
+  -- one more connection, at the last moment or later
   pub one_more : (served whole first last from next : ℕ) (before mid after : K) → served + 1 ≤ whole → first ≤ last → last ≤ from → from ≤ next
       → HasServed g served (IsClientsWithin first last) before mid → HasServed g 1 (IsClientsWithin from next) mid after → HasServed g whole (IsClientsWithin first next) before after
   one_more served whole first last from next before mid after room up on to sofar one =
@@ -24,7 +24,7 @@ module _ {K : Type 0} (g : Ghosts K) where
       (λ v it. within first last first next v (omega arith) (omega (arith, on, to)) it) (λ v it. within from next first next v (omega (arith, up, on)) (omega arith) it)
       (λ v w here there. omega (arith, here.to_last, there.from_first, on)) sofar one
 
-  -- more may have been
+  -- the bound on the number of connections may be greater
   pub or_more : (served whole first last : ℕ) (before after : K) → served ≤ whole → HasServed g served (IsClientsWithin first last) before after
       → HasServed g whole (IsClientsWithin first last) before after
   or_more served whole first last before after room sofar = record {

@@ -15,7 +15,7 @@ pub struct Patience {
     pub first: Duration,
     /// How long a read or a write may wait for the client.
     pub silence: Duration,
-    /// How long a client may go on sending behind its reply.
+    /// How long a client may go on sending after its reply.
     pub parting: Duration,
     /// How long the whole connection may last.
     pub whole: Duration,
@@ -30,19 +30,19 @@ const MOST_PIECE: usize = 65_536;
 /// What a client has sent of the empty lines that may come before its first line.
 #[derive(Clone, Copy)]
 enum Before {
-    /// None, or one that ended in LF alone.
+    /// Nothing, or an empty line that ended in LF alone.
     Line,
     /// A CR, whose LF is to come.
     Return,
-    /// One that ended in CR LF.
+    /// An empty line that ended in CR LF.
     WholeLine,
-    /// The same, and the CR of another.
+    /// An empty line that ended in CR LF, and the CR of another.
     SecondReturn,
 }
 
 impl Before {
-    /// What there is after one byte more, if that goes on with empty lines. These are what httparse passes over before the head of a
-    /// request, and the desk reads: each ends in CR LF, or in LF alone. CR LF CR LF is none of them, since it ends a head.
+    /// What there is after one byte more, if that goes on with empty lines. Empty lines are those that httparse, and so the desk, passes
+    /// over before the head of a request: each ends in CR LF, or in LF alone. CR LF CR LF is not among them, since it ends a head.
     fn after(self, byte: u8) -> Option<Before> {
         match (self, byte) {
             (Before::Line, b'\r') => Some(Before::Return),
@@ -78,7 +78,7 @@ impl FirstLine {
         }
     }
 
-    /// Takes a byte of the line, where that goes on. What there is no memory for is left out.
+    /// Takes a byte of the line once it has begun, or its end. What there is no memory for is left out.
     fn take_more(&mut self, byte: u8) {
         if byte == b'\n' || byte == b'\r' || self.text.len() >= MOST_LINE {
             self.is_whole = true;
@@ -87,7 +87,7 @@ impl FirstLine {
         }
     }
 
-    /// Takes a byte where no byte of the line has come.
+    /// Takes a byte if none of the line has come yet.
     fn begin(&mut self, byte: u8) {
         match self.before.after(byte) {
             Some(before) => self.before = before,
@@ -133,7 +133,8 @@ pub struct Client<'c, R> {
 }
 
 impl<R: Clock> Client<'_, R> {
-    /// How long the next call may wait: so long, or what is left of the whole. Fails where nothing is, or the client is lost.
+    /// How long the next call may wait: `most`, or what is left of the whole if that is less. Fails if nothing is left, or if the client is
+    /// lost.
     fn wait(&self, most: Duration) -> io::Result<Duration> {
         let left = self
             .patience
@@ -145,7 +146,7 @@ impl<R: Clock> Client<'_, R> {
         Ok(left.min(most))
     }
 
-    /// Reads what comes within so long.
+    /// Reads what comes within `most`.
     pub fn read_within(&self, most: Duration, buf: &mut [u8]) -> io::Result<usize>
         ensures { ReadsAtMost result buf.new }
     {
@@ -168,10 +169,12 @@ impl<R: Clock> Client<'_, R> {
     }
 }
 
-/// A reader that gives what a client sends, from its first byte on, and nothing else. None is one but those that this module names.
+/// A reader that gives what a client sends, from its first byte on, and nothing else. Only the types that this module names are such
+/// readers.
 pub trait FromOutside {}
 
-/// The stream of a client: its first byte is waited for as long as the patience says, and then for as long as it is silent.
+/// The stream of a client. Its first byte is waited for as long as `first` of the patience says, and each later read as long as `silence`
+/// says.
 #[derive(Drop)]
 pub struct ClientStream<'s, 'c, R> {
     pub client: &'s Client<'c, R>,
@@ -192,7 +195,7 @@ impl<R: Clock> Read for ClientStream<'_, '_, R> {
     }
 }
 
-/// What a client sends: what this source gives, of which the first line is noted.
+/// What a client sends: what this source gives. Its first line is noted.
 #[derive(Drop)]
 pub struct FromClient<'l, S> {
     pub source: S,

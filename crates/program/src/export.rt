@@ -42,7 +42,7 @@ pub fn stop_of<'a>(fault: ExportFault) -> Stop<'a> {
     }
 }
 
-/// What became of an export, as the program tells it.
+/// What became of an export, with the reason that the program prints if it failed.
 fn told<'a>(done: Result<(), ExportFault>) -> Result<(), Stop<'a>> {
     match done {
         Ok(()) => Ok(()),
@@ -50,8 +50,8 @@ fn told<'a>(done: Result<(), ExportFault>) -> Result<(), Stop<'a>> {
     }
 }
 
-/// Exports what the suites of the archive of a database file show into a folder, and prints what became of each suite and of the pool.
-/// How far it is comes to standard error, where that is a terminal.
+/// Exports what the suites of the archive of a database file show into a folder, and prints what became of each suite and of the pool. Its
+/// progress is shown on standard error, if that is a terminal.
 pub fn export_file<'a, K: Keeper + Drop, F: InFile<K>, W: Write>(
     rt: &HostRuntime,
     db: &str,

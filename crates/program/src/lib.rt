@@ -1,5 +1,5 @@
-//! The program over any keeper in a file: a line of the command line, done over the archive of a database file, the archive exported into a
-//! folder, and served over HTTP.
+//! The program over any keeper in a file: it does a line of the command line over the archive of a database file, exports the archive into
+//! a folder, and serves it over HTTP.
 #![tactic(auto)]
 
 mod client;

@@ -9,7 +9,7 @@ use in_file::FileArchives;
 use keep::Keeper;
 use std::io::Write;
 
-/// Does a line over keepers of this type, and says whether all that was given was taken, and nothing passed over.
+/// Does a line over keepers of this type, and answers whether all that was given was taken and nothing was passed over.
 fn done<'a, K: Keeper + Drop, F: InFile<K>, W: Write, E: Write>(
     rt: &HostRuntime,
     line: &CommandLine<'a>,
@@ -27,7 +27,7 @@ fn done<'a, K: Keeper + Drop, F: InFile<K>, W: Write, E: Write>(
     }
 }
 
-/// The same, with its output written out.
+/// Does a line as `done` does, and flushes its output.
 fn finished<'a, K: Keeper + Drop, F: InFile<K>, W: Write, E: Write>(
     rt: &HostRuntime,
     line: &CommandLine<'a>,
@@ -52,11 +52,11 @@ fn status_of<E: Write>(finished: Result<bool, Stop<'_>>, err: &mut E) -> u8 {
     }
 }
 
-/// Does a line over archives in files, and answers the exit status: 0 where it is done; 1 where something is refused, a field of a
-/// configuration is passed over or a file can't be read; 2 where a list has a bad line; 3 where memory runs out, a disk fails or is full,
-/// the address can't be used, a path can't be written, or an output fails. What was refused is a line on `err`, or two where the archive
-/// is of another layout, but for the files of a `put`, the uploads of a run and the commands of a list, which have their lines on `out`;
-/// where an output fails nothing more is printed. The log of a `serve` is on `err` too.
+/// Does a line over archives in files, and answers the exit status: 0 if it is done; 1 if something is refused, a field of a configuration
+/// is passed over or a file can't be read; 2 if a list has a bad line; 3 if memory runs out, a disk fails or is full, the address can't be
+/// used, a path can't be written, or an output fails. What is refused has a line on `err`, or two if the archive is of another layout. But
+/// the files of a `put`, the uploads of a run and the commands of a list have their lines on `out`. If an output fails, nothing more is
+/// printed. The log of a `serve` is on `err` too.
 pub fn act<A: FileArchives, W: Write, E: Write>(
     rt: &HostRuntime,
     line: &CommandLine<'_>,

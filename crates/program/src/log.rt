@@ -1,8 +1,8 @@
 //! The log: a line for each connection.
 //!
-//! A line that can't be written at once is left out, and counted: a log must neither end the service nor hold it. Standard error may be
-//! shared with other processes, a terminal with its shell. So it is set not to wait for the time of a write alone. Without the descriptor
-//! for that (too many files are open when `serve` begins) a write waits.
+//! A line that can't be written at once is left out, and counted: a log must neither end the service nor hold it up. Standard error may be
+//! shared with other processes, as a terminal is with its shell. So it is non-blocking only while a line is written. Without the descriptor
+//! for that (if too many files are open when `serve` begins) a write waits.
 
 use commands::shown::shown_bytes;
 use desk::{DeskFault, Served};
@@ -28,7 +28,7 @@ pub struct Ended<'l> {
     pub lasted: Duration,
 }
 
-/// A word, or `-` for none.
+/// A word, or `-` if there is none or it is empty.
 fn word_or_dash(word: Option<&str>) -> &str {
     match word {
         None | Some("") => "-",
@@ -65,7 +65,7 @@ fn line_of(alloc: Global, ended: &Ended<'_>) -> Result<String, AllocError> {
 #[derive(Drop)]
 pub struct Log<'l, E> {
     out: &'l mut E,
-    /// The file of the output once more. It need not be a socket: to say whether a write may wait is all that it is for.
+    /// A second descriptor of the output's file. It need not be a socket: it only serves to set whether a write may wait.
     file: Option<TcpStream>,
     /// How many lines were left out since the last that was written.
     left_out: u64,
@@ -88,15 +88,15 @@ impl<'l, E: Write> Log<'l, E> {
         }
     }
 
-    /// Says whether a write may wait.
+    /// Sets whether a write may wait.
     fn set_waiting(&self, may_wait: bool) {
         if let Some(file) = &self.file {
             let _ = file.set_nonblocking(!may_wait);
         }
     }
 
-    /// Hands a text to the output, which takes what it can at once, and says whether it took all. Others may have the same file, so it
-    /// is told not to wait for this alone.
+    /// Hands a text to the output, which takes what it can at once, and answers whether it took all. Others may have the same file open, so
+    /// it is non-blocking only for this write.
     fn is_taken(&mut self, text: &[u8]) -> bool {
         self.set_waiting(false);
         let count = self.out.write(text).unwrap_or(0);
@@ -106,7 +106,7 @@ impl<'l, E: Write> Log<'l, E> {
         is_whole
     }
 
-    /// Writes how many lines were left out, and says whether this is told, or none was.
+    /// Writes how many lines were left out. It answers whether that is written, or no line was left out.
     fn has_told(&mut self, alloc: Global) -> bool {
         if self.left_out == 0 {
             return true;
@@ -135,19 +135,20 @@ impl<'l, E: Write> Log<'l, E> {
         }
     }
 
-    /// Writes the line of a connection. One that there is no memory for, or that can't be written at once, is left out, and before the next
-    /// that is written stands how many were.
+    /// Writes the line of a connection. If there is no memory for it, or if it can't be written at once, it is left out. The next line that
+    /// is written comes after one that says how many were left out.
     pub fn write_line(&mut self, alloc: Global, ended: &Ended<'_>) {
         self.write(alloc, line_of(alloc, ended));
     }
 
-    /// Writes that the export at a moment failed, and why, as the program tells it, in the same way.
+    /// Writes that the export at a moment failed, and why, in the words of the program. It may be left out, as the line of a connection
+    /// may.
     pub fn write_failure(&mut self, alloc: Global, moment: u64, told: &str) {
         let why = told.strip_prefix("archive: ").unwrap_or(told);
         self.write(alloc, format!(in alloc; "{moment} export failed: {why}\n"));
     }
 
-    /// Writes a text as a line, in the same way.
+    /// Writes a text as a line, which may be left out, as that of a connection may.
     pub fn write_text(&mut self, alloc: Global, text: &str) {
         self.write(alloc, format!(in alloc; "{text}\n"));
     }

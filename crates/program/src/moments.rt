@@ -20,8 +20,7 @@ pub struct Moments<'p> {
     greatest: u64,
 }
 
-/// The moment that a text has: a decimal number of one to ten digits, at most the latest moment, and perhaps the end of a line
-/// behind it.
+/// The moment that a text has: a decimal number of one to ten digits, at most the latest moment. The end of a line may follow it.
 fn moment_in(text: &[u8]) -> Option<u64> {
     let digits = text.strip_suffix(b"\n").unwrap_or(text);
     if digits.len() > 10 || !digits.iter().all(u8::is_ascii_digit) {
@@ -31,7 +30,7 @@ fn moment_in(text: &[u8]) -> Option<u64> {
     (number <= LATEST).then_some(number)
 }
 
-/// The first bytes of a regular file. Any other, as a pipe, is not opened: that may wait without end.
+/// The first bytes of a regular file. Any other file, as a pipe, is not opened: opening it may wait without end.
 fn beginning_of<R: Files + AllocGlobal>(rt: &R, path: &str) -> io::Result<Vec<u8>> {
     if length_of(rt, path).is_none() {
         return Err(io::Error::from(io::ErrorKind::InvalidInput));
@@ -44,7 +43,8 @@ fn beginning_of<R: Files + AllocGlobal>(rt: &R, path: &str) -> io::Result<Vec<u8
 }
 
 impl<'p> Moments<'p> {
-    /// The greatest of this moment and all numbers that the file has held so far. Without a file each connection has the moment.
+    /// The moments of connections, each the greatest of this moment and all numbers that the file has held so far. Without a file each
+    /// connection has this moment.
     pub fn new(moment: u64, file: Option<&'p str>) -> Moments<'p>
         ensures still { file.entry ≡ None → result.file ≡ None }
         ensures greatest { result.greatest ≡ moment }
@@ -62,7 +62,7 @@ impl<'p> Moments<'p> {
         self.greatest
     }
 
-    /// The moment of the next connection. A file that can't be read, that holds no moment or that is no regular file changes nothing.
+    /// The moment of the next connection. A file that can't be read, that holds no moment or that is not a regular file changes nothing.
     pub fn next<R: Files + AllocGlobal>(&mut self, rt: &R) -> u64
         ensures is { result ≡ self.new.greatest }
         ensures rises { self.old.greatest ≤ self.new.greatest }

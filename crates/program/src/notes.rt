@@ -38,7 +38,8 @@ impl<'l, E: Write> Notes<'l, E> {
         self.log.write_line(alloc, ended);
     }
 
-    /// Writes why the export at a moment failed, as the program tells it, and a line of the log about that, if it is wanted.
+    /// Writes why the export at a moment failed, in the words of the program. If connections have lines of the log, it writes one about
+    /// that too.
     pub fn write_failure(&mut self, alloc: Global, moment: u64, told: &str) {
         self.log.write_text(alloc, told);
         if self.is_logged {

@@ -1,14 +1,15 @@
 //! The archive served over HTTP, one connection after the other.
 //!
-//! The first byte is waited for shortly, since browsers and health checks open connections that they do not use. After a reply the server
+//! The wait for the first byte is short, since browsers and health checks open connections that they do not use. After a reply the server
 //! closes its side and reads on, up to 4 MiB and 2 seconds: a socket that is closed with bytes unread is reset, and its client then loses
 //! the reply. Only these intervals, the milliseconds of the log and the wait for a lock are measured by a clock: no answer depends on it.
 //!
-//! If a connection can't be accepted for want of room, or since its network failed, this waits a tenth of a second and asks again, without
-//! end. These errors pass (accept(2)), and a service that ended would begin again into the same. They count as no connection. A client that
-//! left before it was accepted is reported by an error as well, and counts. Any other error ends `serve`: the listener is none any more.
+//! If a connection can't be accepted for want of room, or because its network failed, `serve` waits a tenth of a second and tries again,
+//! without end. These errors pass (accept(2)), and a service that ended would meet them again when it is started again. They count as no
+//! connection. A client that left before it was accepted is reported by an error as well, and counts. Any other error ends `serve`, since
+//! the listener is of no more use.
 //!
-//! 16 MiB are taken once, and given back at once. From then on the C library's allocator keeps up to 32 MiB. Without that it gives the
+//! 16 MiB are taken once, and given back at once. From then on the C library's allocator keeps up to 32 MiB. Otherwise it would give the
 //! memory of each large reply back, and taking it anew costs more than the reply. A reply goes through a buffer, if there is memory for
 //! one.
 
@@ -44,7 +45,7 @@ pub fn patience() -> Patience {
     }
 }
 
-/// The most bytes that are read behind a reply.
+/// The most bytes that are read after a reply.
 const MOST_DRAINED: u32 = 4_194_304;
 
 /// How many bytes the allocator is to keep between two replies: what the largest takes.
@@ -54,7 +55,7 @@ const ROOM: usize = 16_777_216;
 /// larger one costs more than the calls that it spares: this one takes a head, and most bodies that follow one at once.
 const MOST_AHEAD: usize = 2_048;
 
-/// How long is waited where no connection can be accepted for now, in milliseconds.
+/// How long `serve` waits if no connection can be accepted for now, in milliseconds.
 const BETWEEN_TRIES: u64 = 100;
 
 /// The errors of Linux by which it says that no connection can be accepted for now: EMFILE, ENFILE, ENOBUFS and ENOMEM for want of room,
@@ -62,18 +63,18 @@ const BETWEEN_TRIES: u64 = 100;
 /// EHOSTUNREACH, EOPNOTSUPP and ENETUNREACH.
 const PASSING: [i32; 12] = [24, 23, 105, 12, 100, 71, 92, 112, 64, 113, 95, 101];
 
-/// Has the allocator keep the memory of a reply for the next. The C library's gives back what lies free at the end of its
-/// memory, if that is more than twice the largest piece that was ever given back to it; taken anew for each reply it costs
-/// more than the reply.
+/// Has the allocator keep the memory of a reply for the next. The allocator of the C library gives back what lies free at the end of its
+/// memory, if that is more than twice the largest piece that was ever given back to it. To take it anew for each reply costs more than the
+/// reply.
 pub fn keep_room(alloc: Global) {
     let _ = Vec::<u8>::with_capacity(alloc, ROOM);
 }
 
-/// Answers so many connections of a listener, one after the other, each as a list of it alone, at the moment, in seconds
-/// since 1970-01-01 00:00:00 UTC. A client whose first byte does not come within 5 seconds, that is silent for 30, or whose
-/// connection lasts for 120 loses it. A connection that fails counts, and the next is answered. Where none can be accepted for now, it
-/// waits a moment and tries again, however often. It ends early where none can be accepted at all, and with the number of those that
-/// are left where the keeper is shut.
+/// Answers `count` connections of a listener, one after the other, each as a list of it alone, at the moment, in seconds since 1970-01-01
+/// 00:00:00 UTC. A client loses its connection if its first byte does not come within 5 seconds, if it is silent for 30, or if the
+/// connection lasts for 120. A connection that fails counts, and the next is answered. If none can be accepted for now, it waits a moment
+/// and tries again, however often. It ends early if none can be accepted at all. If the keeper is shut it ends with the number of those
+/// that are left.
 pub fn serve<'a, R: Clock + Files + AllocGlobal, K: Keeper>(
     rt: &R,
     archive: &mut Archive<K>,
@@ -81,8 +82,8 @@ pub fn serve<'a, R: Clock + Files + AllocGlobal, K: Keeper>(
     count: u64,
     moment: u64,
 ) -> Result<(), Stop<'a>>
-    // Whatever clients send, and whenever they leave: the archive is as `attend` leaves it of some list of connections, at most so many, at
-    // the moment. Their readers are of types that give what a client sends and nothing else (`FromOutside`).
+    // Whatever clients send, and whenever they leave, the archive is as `attend` leaves it after some list of at most `count` connections
+    // at the moment. Their readers are of types that give what a client sends and nothing else (`FromOutside`).
     ensures served { HasServed K.Keeper count (IsClientsWithin moment moment) archive.old.keeper archive.new.keeper }
 {
     keep_room(rt.alloc());
@@ -100,7 +101,7 @@ pub fn serve<'a, R: Clock + Files + AllocGlobal, K: Keeper>(
     )
 }
 
-/// The same, at the moments, with notes of each connection.
+/// Answers `count` connections of a listener as `serve` does, but at these moments, with this patience, and with notes of each connection.
 pub fn serve_at<'a, R: Clock + Files + AllocGlobal, K: Keeper, E: Write>(
     rt: &R,
     archive: &mut Archive<K>,
@@ -110,7 +111,7 @@ pub fn serve_at<'a, R: Clock + Files + AllocGlobal, K: Keeper, E: Write>(
     patience: Patience,
     notes: &mut Notes<'_, E>,
 ) -> Result<(), Stop<'a>>
-    // Each moment is one that they have now or had on the way, and none is before that of an earlier connection.
+    // Each connection has a moment that `moments` has now or had on the way, and none is before that of an earlier connection.
     ensures served { HasServed K.Keeper count (IsClientsWithin moments.old.greatest moments.new.greatest) archive.old.keeper archive.new.keeper }
     ensures rises { moments.old.greatest ≤ moments.new.greatest }
     ensures still { moments.old.file ≡ None → moments.new.greatest ≡ moments.old.greatest }
@@ -119,7 +120,7 @@ pub fn serve_at<'a, R: Clock + Files + AllocGlobal, K: Keeper, E: Write>(
     let desk = Desk::new(rt.alloc())?;
     for served in 0..count {
         match accepted(rt, listener) {
-            // What comes of the connection is its client's alone.
+            // How the connection ends concerns its client alone.
             Ok(stream) => {
                 let moment = moments.next(rt);
                 let visit = Visit {
@@ -151,7 +152,7 @@ struct Visit<'v, R> {
     patience: Patience,
 }
 
-/// Whether a connection can't be accepted for now alone.
+/// Whether an error says that no connection can be accepted for now, but perhaps later.
 fn is_passing(error: &io::Error) -> bool {
     match error.raw_os_error() {
         Some(code) => PASSING.contains(&code),
@@ -159,7 +160,7 @@ fn is_passing(error: &io::Error) -> bool {
     }
 }
 
-/// The next connection of a listener. Where none can be accepted for now, it is waited a moment and tried again.
+/// The next connection of a listener. If none can be accepted for now, it waits a moment and tries again.
 fn accepted<R: Clock>(rt: &R, listener: &TcpListener) -> io::Result<TcpStream> {
     for _ in 0..u64::MAX {
         match listener.accept() {
@@ -173,7 +174,7 @@ fn accepted<R: Clock>(rt: &R, listener: &TcpListener) -> io::Result<TcpStream> {
     Err(io::Error::from(io::ErrorKind::TimedOut))
 }
 
-/// Answers one connection, and says whether the keeper is shut behind it.
+/// Answers one connection, and says whether the keeper is shut after it.
 fn leaves_shut<R: Clock + AllocGlobal, K: Keeper, E: Write>(
     visit: &Visit<'_, R>,
     archive: &mut Archive<K>,
@@ -248,7 +249,7 @@ fn answer_client<R: Clock + AllocGlobal, K: Keeper, E: Write>(
     Ok(end)
 }
 
-/// Answers the request of a client. The request and the reply go through a buffer each, where there is memory for it.
+/// Answers the request of a client. The request and the reply go through a buffer each, if there is memory for it.
 fn answered<R: Clock + AllocGlobal, K: Keeper>(
     visit: &Visit<'_, R>,
     archive: &mut Archive<K>,
@@ -269,7 +270,7 @@ fn answered<R: Clock + AllocGlobal, K: Keeper>(
     replied(visit, archive, client, &mut reader, sent)
 }
 
-/// Answers the request of this reader of a client. The reply goes through a buffer, where there is memory for one.
+/// Answers the request of this reader of a client. The reply goes through a buffer, if there is memory for one.
 fn replied<R: Clock + AllocGlobal, K: Keeper, I: Read + FromOutside>(
     visit: &Visit<'_, R>,
     archive: &mut Archive<K>,
@@ -307,7 +308,7 @@ fn connection<R, W>(reader: R, writer: W, moment: u64) -> Connection<R, W>
     }
 }
 
-/// How a connection ended, where it did.
+/// How a connection ended, or `Nothing` if it has not ended.
 fn end_of(end: &Option<Result<Served, DeskFault>>) -> Result<Served, DeskFault>
     ensures { result ≡ end_of end.now }
 {
@@ -317,7 +318,7 @@ fn end_of(end: &Option<Result<Served, DeskFault>>) -> Result<Served, DeskFault>
     }
 }
 
-/// How the first of connections ended.
+/// How the first of these connections ended, or `Nothing` if there is none.
 fn first_end<R, W>(connections: &[Connection<R, W>]) -> Result<Served, DeskFault>
     ensures { result ≡ first_end connections.now }
 {
@@ -342,7 +343,7 @@ fn attended<K: Keeper, R: Read + FromOutside, W: Write>(
     first_end(connections)
 }
 
-/// Reads what a client goes on to send, within what is left of the patience with its parting, and says how many bytes came: none at the
+/// Reads what a client goes on to send, within what is left of the patience with its parting, and answers how many bytes came: 0 at the
 /// end, or once that time is over.
 fn drained<R: Clock>(
     client: &Client<'_, R>,
@@ -357,8 +358,9 @@ fn drained<R: Clock>(
     client.read_within(left, buffer)
 }
 
-/// Ends what a client is sent, and reads on to the end of what it sends, for the patience with its parting and so many bytes. A
-/// stream that is closed with bytes unread is reset, and then a client that is still sending loses the reply.
+/// Ends what a client is sent, and reads what it goes on to send: to its end, until the patience with its parting is over, or until
+/// `MOST_DRAINED` bytes have come. A stream that is closed with bytes unread is reset, and then a client that is still sending loses the
+/// reply.
 fn part<R: Clock>(client: &Client<'_, R>) -> io::Result<()> {
     client.stream.shutdown(Shutdown::Write)?;
     let begun = Instant::now(client.rt)?;

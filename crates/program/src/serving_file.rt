@@ -4,8 +4,9 @@
 //! then opened again, and the rest of the connections is answered from what is in the file: the book before the failed call, or with it. A
 //! full disk shuts no keeper.
 //!
-//! With a folder to export to, connections are served one by one, and the folder is exported to after each that may have changed what suites show, before the next
-//! is accepted: a reply does not wait for it. It is a look at each suite's Release where nothing changed.
+//! With a folder to export to, connections are served one by one, and the folder is exported to after each that may have changed what
+//! suites show, before the next is accepted: a reply does not wait for it. If nothing changed, the export only looks at each suite's
+//! Release.
 //!
 //! The listener is made before the archive is opened, and ends last, so that clients wait in the system's queue meanwhile. If both fail,
 //! the fault of the database is reported. A `Desk` is made after each opening. If there is no memory for it, `serve` ends with Q0 and
@@ -29,7 +30,7 @@ use std::io::{self, Write};
 use std::net::TcpListener;
 use std::os::fd::AsFd;
 
-/// Serves so many connections of a listener, or says that there is none.
+/// Serves `left` connections of a listener, or fails with `CannotListen` if there is none.
 fn serve_listener<'a, K: Keeper, E: Write>(
     rt: &HostRuntime,
     archive: &mut Archive<K>,
@@ -49,8 +50,9 @@ fn serve_listener<'a, K: Keeper, E: Write>(
     }
 }
 
-/// A folder that is exported to, whether a suite is shown there only once its new state is signed, whether one that is shown there signed
-/// is shown unsigned from now on, whether each index text also stands there under its digest, and the database file of the archive.
+/// A folder that is exported to, and how: whether a suite is shown there only once its new state is signed, whether one that is shown there
+/// signed is shown unsigned from now on, and whether each index text also stands there under its digest. `database` is the database file of
+/// the archive.
 #[derive(Clone, Copy)]
 struct Tree<'t> {
     folder: &'t str,
@@ -60,7 +62,7 @@ struct Tree<'t> {
     database: &'t str,
 }
 
-/// Exports into a folder, as of a moment. An export that fails has a line among the notes, and ends nothing.
+/// Exports into a folder, as of a moment. If the export fails, that is noted, and serving goes on.
 fn export_to<K: Keeper, E: Write>(
     rt: &HostRuntime,
     archive: &mut Archive<K>,
@@ -117,7 +119,7 @@ fn serve_and_export<'a, K: Keeper, E: Write>(
     tree: Tree<'_>,
     notes: &mut Notes<'_, E>,
 ) -> Result<(), Stop<'a>>
-    // As without an export: that only reads.
+    // The connections are served as without an export, which only reads.
     ensures served { HasServed K.Keeper left (IsClientsWithin moments.old.greatest moments.new.greatest) archive.old.keeper archive.new.keeper }
     ensures rises { moments.old.greatest ≤ moments.new.greatest }
     ensures still { moments.old.file ≡ None → moments.new.greatest ≡ moments.old.greatest }
@@ -133,8 +135,8 @@ fn serve_and_export<'a, K: Keeper, E: Write>(
     Ok(())
 }
 
-/// Opens the archive of a database file and serves so many connections. Answers how many are left where its keeper is shut
-/// before, and else none.
+/// Opens the archive of a database file and serves `left` connections. Answers how many are left if its keeper is shut before the last, and
+/// else 0.
 fn serve_some<'a, K: Keeper + Drop, F: InFile<K>, E: Write>(
     rt: &HostRuntime,
     db: &str,
@@ -157,7 +159,7 @@ fn serve_some<'a, K: Keeper + Drop, F: InFile<K>, E: Write>(
     }
 }
 
-/// What an opening of an archive that was served before ends with.
+/// Why `serve` ends if an archive that it has served before can't be opened again.
 fn again<'a>(stop: Stop<'a>) -> Stop<'a> {
     match stop {
         Stop::NoArchive(fault) | Stop::Older(fault, _) | Stop::Later(fault, _) => Stop::Lost(fault),
@@ -186,7 +188,7 @@ fn tree_of<'t>(db: &'t str, serving: &Serving<'t>) -> Option<Tree<'t>> {
     }
 }
 
-/// Serves so many connections of a listener, and opens the archive once more each time that its keeper is shut.
+/// Serves `count` connections of a listener, and opens the archive once more each time that its keeper is shut.
 fn serve_all<'a, K: Keeper + Drop, F: InFile<K>, E: Write>(
     rt: &HostRuntime,
     db: &str,
@@ -209,9 +211,9 @@ fn serve_all<'a, K: Keeper + Drop, F: InFile<K>, E: Write>(
     Ok(())
 }
 
-/// Serves the archive of a database file. The listener is made before the file is opened, so that clients wait meanwhile, and
-/// ends behind it. Where the keeper is shut by a disk that fails, the file is opened again, and the rest of the connections is
-/// answered from what is found then.
+/// Serves the archive of a database file. The listener is made before the file is opened, so that clients wait meanwhile, and ends after it
+/// is closed. If the keeper is shut by a disk that fails, the file is opened again, and the rest of the connections is answered from what
+/// is found then.
 pub fn serve_file<'a, K: Keeper + Drop, F: InFile<K>, E: Write>(
     rt: &HostRuntime,
     db: &str,

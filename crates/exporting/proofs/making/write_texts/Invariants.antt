@@ -1,4 +1,4 @@
--- So far the archive was read alone.
+-- So far the archive was only read.
 use Rattle.keep.specs.Keeping.{Reads}
 use Rattle.exporting.proofs.making.write_texts.Given as goal
 
