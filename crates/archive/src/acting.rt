@@ -19,8 +19,8 @@ impl<S: InOrder + Drop, F: InFile<TableKeeper<S>>> FileArchives for OnStores<S, 
     type File = F;
 }
 
-/// Does a line over keepers on stores of this type, and answers the exit status. Where the store is not named, the prover has little to
-/// compare.
+/// Does a line over keepers on stores of this type, and answers the exit status. The type of the store is a parameter here, so that the
+/// prover has little to compare.
 fn act_over<S: InOrder + Drop, F: InFile<TableKeeper<S>>, W: Write, E: Write>(
     rt: &HostRuntime,
     line: &CommandLine<'_>,

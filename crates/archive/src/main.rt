@@ -19,7 +19,7 @@ fn given_words(rt: &HostRuntime) -> io::Result<Vec<String>> {
     Ok(given)
 }
 
-/// The words that these texts are.
+/// These texts as words.
 fn words_of(alloc: Global, given: &[String]) -> Result<Vec<&str>, AllocError> {
     let mut words = Vec::new(alloc);
     for word in given {

@@ -78,10 +78,9 @@ impl fmt::Display for DeskFault {
 impl Error for DeskFault {}
 
 impl Desk {
-    /// Answers one connection at a moment, in seconds since 1970-01-01 00:00:00 UTC: reads the part of its bytes that the
-    /// request uses, calls the archive if that is what they ask for, and writes the reply. A delivery's body goes to the
-    /// archive as it comes. Memory of its own is taken before the archive is called, so that what was carried out is never
-    /// answered with a want of memory.
+    /// Answers one connection at a moment, in seconds since 1970-01-01 00:00:00 UTC: reads the part of its bytes that the request uses,
+    /// calls the archive if that is what they ask for, and writes the reply. A delivery's body goes to the archive as it comes. The memory
+    /// that the desk needs is taken before the archive is called, so that what was carried out is never answered with a want of memory.
     pub fn answer<K: Keeper, R: Read, W: Write>(
         &self,
         alloc: Global,
@@ -102,8 +101,8 @@ impl Desk {
     }
 }
 
-/// Answers one connection as [`Desk::answer`] does, by a desk of its own. Where there is no memory for one, the reply is 507
-/// and nothing was read.
+/// Answers one connection as [`Desk::answer`] does, by a desk of its own. If there is no memory for one, the reply is 507 and nothing is
+/// read.
 pub fn answer<K: Keeper, R: Read, W: Write>(
     alloc: Global,
     archive: &mut Archive<K>,
@@ -165,8 +164,7 @@ fn reply_to<K: Keeper, R: Read>(
     }
 }
 
-/// Calls the archive, and has the reply to its outcome. The body of a delivery is read behind its head, as far as the archive
-/// reads it.
+/// Calls the archive, and has the reply to its outcome. The body of a delivery is read after its head, as far as the archive reads it.
 fn carry_out<K: Keeper, R: Read>(
     alloc: Global,
     archive: &mut Archive<K>,
@@ -268,7 +266,7 @@ fn fetch_reply(outcome: Result<Option<Vec<u8>>, Fault>, is_pool: bool) -> Reply
     }
 }
 
-/// The reply to a delivery that was refused, where there is one.
+/// The reply to a delivery that was refused. If its reader failed there is no reply.
 fn reception_reply(fault: Fault) -> Result<Reply, ReaderFailed>
     ensures { MatchResult result (λ reply. Some (message_of reply) ≡ reception_message fault) (λ _. reception_message fault ≡ None) }
 {

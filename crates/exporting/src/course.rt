@@ -263,7 +263,7 @@ fn site_of<R: Disk>(
 
 /// Exports an archive into a folder, and prints what its suites show: `shown CODENAME STATE`, `same CODENAME` or `waits CODENAME STATE` for
 /// each, in the order of the configuration. After a state without a signature, if the one before had one, comes `unsigned CODENAME`, and
-/// `mended CODENAME COUNT` if COUNT texts of the state, more than 0, were damaged. Then comes `gone CODENAME` for each suite of the tree
+/// `mended CODENAME COUNT` if COUNT files of the state, one or more, were mended. Then comes `gone CODENAME` for each suite of the tree
 /// that the configuration no longer has. Last comes `pool NEW SAME LEFT GONE`: how many files of the pool were written, how many were
 /// there, how many are left that no longer belong to it, and how many were removed. Its progress is reported to `watcher`.
 ///

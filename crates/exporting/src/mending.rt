@@ -93,7 +93,7 @@ fn mend_state<R: Disk, K: Keeper>(
     Ok(texts.saturating_add(pages))
 }
 
-/// Mends each state that is made, and notes in each suite how many of its texts were mended.
+/// Mends each state that is made, and notes in each suite how many of its files were mended.
 #[tactic(auto, using(keep::proofs::ReadLemmas::reads_none, keep::proofs::ReadLemmas::reads_more))]
 pub fn mend_states<R: Disk, K: Keeper>(
     rt: &R,

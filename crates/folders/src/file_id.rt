@@ -1,4 +1,4 @@
-//! What tells the files of a machine apart.
+//! What distinguishes the files of a machine.
 
 use std::fs::Metadata;
 use std::os::unix::fs::MetadataExt;

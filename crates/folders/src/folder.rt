@@ -12,7 +12,7 @@ use std::io::{self, ErrorKind};
 #[derive(Drop)]
 pub struct Folder<R: Disk> {
     file: R::File,
-    /// What the system takes for the folder: `/proc/self/fd/N`, or its path if there is no /proc.
+    /// The path that stands for the folder in calls of the system: `/proc/self/fd/N`, or its own path if there is no /proc.
     base: String,
     /// The path by which it was opened, for messages.
     path: String,
@@ -20,7 +20,7 @@ pub struct Folder<R: Disk> {
     is_by_number: bool,
 }
 
-/// What the system takes for the folder of a number.
+/// The path that stands for the folder of a number in calls of the system.
 fn base_of(alloc: Global, number: i32) -> Result<String, AllocError> {
     format!(in alloc; "/proc/self/fd/{number}")
 }
@@ -127,7 +127,7 @@ impl<R: Disk> Folder<R> {
         inside(alloc, self.path.as_str(), name)
     }
 
-    /// What the system takes for a name in this folder.
+    /// The path that stands for a name in this folder in calls of the system.
     pub fn place_of(&self, alloc: Global, name: &str) -> Result<String, AllocError> {
         inside(alloc, self.base.as_str(), name)
     }
@@ -153,7 +153,7 @@ impl<R: Disk> Folder<R> {
         }
     }
 
-    /// The fault of a name in this folder, which something else has.
+    /// The fault of a name in this folder that something else has.
     pub fn place_fault(&self, alloc: Global, name: &str) -> FolderFault {
         match self.path_of(alloc, name) {
             Ok(path) => place_fault(alloc, path.as_str()),
@@ -168,7 +168,7 @@ impl<R: Disk> Folder<R> {
         self.given(alloc, name, seen_at(rt, place.as_str()))
     }
 
-    /// The folder of a name in this one, open. There is none if nothing has the name, or a link, or another file.
+    /// The folder of a name in this one, open. It is `None` if nothing has the name, or if a link or a file has it.
     pub fn within(&self, rt: &R, name: &str) -> Result<Option<Folder<R>>, FolderFault> {
         let alloc = rt.alloc();
         let place = self.place_of(alloc, name)?;
@@ -201,7 +201,7 @@ impl<R: Disk> Folder<R> {
         at(alloc, self.path.as_str(), self.file.sync_all())
     }
 
-    /// The names in this folder. What is no UTF-8 is passed over.
+    /// The names in this folder. Names that are not UTF-8 are passed over.
     pub fn names(&self, rt: &R) -> Result<Vec<String>, FolderFault> {
         let alloc = rt.alloc();
         let entries = at(

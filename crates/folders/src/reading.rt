@@ -15,7 +15,7 @@ fn bytes_in<R: Disk>(rt: &R, file: R::File, most: u64) -> io::Result<Vec<u8>> {
     Ok(body)
 }
 
-/// The bytes of the file at a path, if it is a regular one that has at most so many.
+/// The bytes of the file at a path, if it is a regular one that has at most `most` bytes.
 fn bytes_at<R: Disk>(rt: &R, path: &str, most: u64) -> io::Result<Option<Vec<u8>>> {
     let Some(file) = open_kind(rt, path, false)? else {
         return Ok(None);
@@ -37,7 +37,7 @@ impl<R: Disk> Folder<R> {
         }
     }
 
-    /// The regular file of a name in this folder, open to be read. There is none if nothing has the name, or something else.
+    /// The regular file of a name in this folder, open to be read. It is `None` if nothing has the name, or something else has it.
     ///
     /// Refused as `Place` if it cannot be opened, and for want of memory.
     pub fn opened(&self, rt: &R, name: &str) -> Result<Option<R::File>, FolderFault> {
@@ -45,8 +45,8 @@ impl<R: Disk> Folder<R> {
         self.given(rt.alloc(), name, open_kind(rt, place.as_str(), false))
     }
 
-    /// The bytes of the regular file of a name in this folder. There are none if nothing has the name, or something else, if the file cannot be
-    /// read, or if it has more bytes than `most`.
+    /// The bytes of the regular file of a name in this folder. The answer is `None` if nothing has the name, or something else has it, if
+    /// the file cannot be read, or if it has more bytes than `most`.
     pub fn bytes(&self, rt: &R, name: &str, most: u64) -> Result<Option<Vec<u8>>, FolderFault> {
         let place = self.place_of(rt.alloc(), name)?;
         match bytes_at(rt, place.as_str(), most) {

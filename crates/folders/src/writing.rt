@@ -25,7 +25,7 @@ fn touch_file<R: Disk>(file: &R::File, moment: SystemTime) -> io::Result<()> {
     file.set_times(FileTimes::new().set_modified(moment))
 }
 
-/// What a removal gave. That there was nothing is no failure.
+/// What a removal gave. It is not a failure if there was nothing.
 fn removed(done: io::Result<()>) -> io::Result<()> {
     match done {
         Err(error) if error.kind() == ErrorKind::NotFound => Ok(()),
@@ -45,7 +45,8 @@ fn open_or_make<R: Disk>(rt: &R, path: &str) -> io::Result<Option<R::File>> {
 }
 
 impl<R: Disk> Folder<R> {
-    /// Removes the file or the link of a name in this folder, if there is one. It is not open while it is removed, so a link is not followed.
+    /// Removes the file or the link of a name in this folder, if there is one. It is removed without being opened, so a link is not
+    /// followed.
     ///
     /// Refused as `Place` if it is kept, if a folder has the name, or if the disk fails, and for want of memory.
     pub fn remove(&self, rt: &R, kept: &Kept, name: &str) -> Result<(), FolderFault> {
@@ -148,8 +149,8 @@ impl<R: Disk> Folder<R> {
         }
     }
 
-    /// The regular file of a name in this folder, open to be written. It is made, if nothing has the name. There is none if something else has
-    /// it.
+    /// The regular file of a name in this folder, open to be written. It is made, if nothing has the name. It is `None` if something else
+    /// has the name.
     ///
     /// Refused as `Place` if it cannot be opened, and for want of memory.
     pub fn opened_to_write(&self, rt: &R, name: &str) -> Result<Option<R::File>, FolderFault> {

@@ -60,7 +60,7 @@ fn are_one<R: Disk>(
     }
 }
 
-/// Gives a text of a folder its name in the folder of digests. What has the name and is another file is replaced, if it has other contents.
+/// Gives a text of a folder its name in the folder of digests. Another file that has the name is replaced, if it has other contents.
 fn name_text<R: Disk>(
     rt: &R,
     site: &Site<R>,
@@ -157,7 +157,7 @@ fn name_texts_of<R: Disk>(
     }
 }
 
-/// Has the state that a suite is to show, which is made, have its texts and those of the two states before it by their digests.
+/// Adds names by digest to the state that a suite is to show, which is made: for its own texts, and for those of the two states before it.
 pub fn add_by_hash<R: Disk>(rt: &R, site: &Site<R>, suite: &Wanted) -> Result<(), FolderFault> {
     let Some(to) = site.dists.within(rt, suite.state.as_str())? else {
         return Ok(());

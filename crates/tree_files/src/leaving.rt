@@ -48,15 +48,15 @@ fn remove_states<R: Disk>(rt: &R, site: &Site<R>, codename: &str) -> Result<(), 
     site.dists.remove_all(rt, &site.kept, new.as_str())
 }
 
-/// Has a suite leave the tree, its link first. It says whether nothing has its name any more.
+/// Removes a suite from the tree, its link first. Answers whether nothing has its name any more.
 fn has_left<R: Disk>(rt: &R, site: &Site<R>, codename: &str) -> Result<bool, FolderFault> {
     remove_link(rt, site, codename)?;
     remove_states(rt, site, codename)?;
     Ok(site.dists.seen(rt, codename)?.is_none())
 }
 
-/// Has the suites leave the tree that the manifest knows and the configuration no longer has. It answers the codenames of those of whose name
-/// nothing is there then.
+/// Removes from the tree the suites that the manifest knows and the configuration no longer has. Answers their codenames, without those
+/// that something in the tree still has as its name.
 pub fn leave_suites<R: Disk>(
     rt: &R,
     site: &Site<R>,

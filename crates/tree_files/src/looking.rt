@@ -57,7 +57,7 @@ fn print_at<R: Disk>(rt: &R, folder: &Folder<R>, name: &str) -> Result<Option<Pr
     }
 }
 
-/// What is said of a file of these contents that was modified then.
+/// What the manifest says of a file of these contents that was modified then.
 pub fn here(print: Print, stamp: Stamp) -> Word {
     let sha256 = print.sha256;
     Word::Here(Vouched {
@@ -67,12 +67,12 @@ pub fn here(print: Print, stamp: Stamp) -> Word {
     })
 }
 
-/// Whether the word on a path vouches that the file that is seen there, which has their size, has the contents.
+/// Whether the word on a path vouches that the file that is seen there has the contents. It has their size.
 fn is_vouched(word: Option<Word>, print: Print, seen: &Metadata) -> bool {
     word == Some(here(print, stamp_of(seen)))
 }
 
-/// The regular file of a name in a folder, if there is one of the size of the print: whose contents the word vouches for, or else as it is read.
+/// The regular file of a name in a folder, if it has the size of the print. Its contents are read, unless the word vouches for them.
 fn found_in<R: Disk>(
     rt: &R,
     folder: &Folder<R>,
@@ -159,7 +159,8 @@ impl<R: Disk> Near<R> {
     }
 }
 
-/// Looks at the path of a file of the pool, and has the manifest say what is there: that file, or else that it is coming.
+/// Looks at the path of a file of the pool, and notes in the manifest that the file is there, or else that it is coming. Answers the print
+/// of what is there.
 fn look_at<R: Disk>(
     rt: &R,
     root: &Folder<R>,
@@ -185,8 +186,8 @@ fn look_at<R: Disk>(
     }
 }
 
-/// The prints of the files that are at the paths of the pool. The manifest says then which of them are there as they are to be, and that
-/// the others are coming.
+/// The prints of the files that are at the paths of the pool. Afterwards the manifest says which of them are there as they are to be, and
+/// that the others are coming.
 pub fn look<R: Disk>(
     rt: &R,
     root: &Folder<R>,

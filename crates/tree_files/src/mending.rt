@@ -35,7 +35,7 @@ fn put_over<R: Disk>(
     folder.sync(rt.alloc())
 }
 
-/// Puts a file at a path in the folder of a state. What is on the way and no folder goes.
+/// Puts a file at a path in the folder of a state. What is on the way and is not a folder is removed.
 fn put_at<R: Disk>(
     rt: &R,
     site: &Site<R>,
@@ -50,7 +50,7 @@ fn put_at<R: Disk>(
     put_over(rt, site, &folder, name, body)
 }
 
-/// Has a file of a state be there as it is to be. It answers how many it mended: one or none.
+/// Mends a file of a state, if it does not have these bytes. Answers how many it mended: 1 or 0.
 pub fn mend_file<R: Disk>(
     rt: &R,
     site: &Site<R>,

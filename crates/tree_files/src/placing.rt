@@ -10,7 +10,7 @@ use folders::{Disk, FolderFault};
 use std::alloc::{AllocError, Global};
 use suites::{PoolFile, Shelves};
 
-/// Puts a file of the pool at its path. It answers what the manifest may vouch for, if it is synced.
+/// Puts a file of the pool at its path. If it is synced, the answer is what the manifest may say of it then.
 fn put_file<R: Disk>(
     rt: &R,
     site: &Site<R>,
@@ -30,7 +30,7 @@ fn put_file<R: Disk>(
     }
 }
 
-/// Puts a file of the pool at its path. If it is synced the manifest vouches for it then.
+/// Puts a file of the pool at its path. If it is synced, the manifest vouches for it then.
 pub fn place<R: Disk>(
     rt: &R,
     site: &Site<R>,
@@ -45,7 +45,7 @@ pub fn place<R: Disk>(
     Ok(())
 }
 
-/// Removes the folder at a path in the tree, if it is empty and no link is on the way to it. It says whether that is done.
+/// Removes the folder at a path in the tree, if it is empty and no link is on the way to it. Answers whether that is done.
 fn remove_empty<R: Disk>(rt: &R, site: &Site<R>, path: &str) -> Result<bool, FolderFault> {
     let (way, name) = cut(path);
     match site.root.way(rt, way)? {
@@ -54,7 +54,7 @@ fn remove_empty<R: Disk>(rt: &R, site: &Site<R>, path: &str) -> Result<bool, Fol
     }
 }
 
-/// Removes the folders above a path, but `pool`, as far as they are empty.
+/// Removes the folders above a path, except `pool`, as far as they are empty.
 fn remove_empty_folders<R: Disk>(rt: &R, site: &Site<R>, path: &str) -> Result<(), FolderFault> {
     let mut folder = folder_of(path);
     for _ in 0..path.len() {
@@ -104,7 +104,7 @@ pub fn show_state<R: Disk>(rt: &R, site: &Site<R>, suite: &Wanted) -> Result<(),
     site.dists.sync(rt.alloc())
 }
 
-/// The paths that the manifest knows and that are none of the pool.
+/// The paths that the manifest knows and that are not in the pool.
 fn strangers(
     alloc: Global,
     shelves: &Shelves,
@@ -119,7 +119,7 @@ fn strangers(
     Ok(paths)
 }
 
-/// Has the manifest say what suites show.
+/// Notes in the manifest what suites show.
 fn tell_shown(alloc: Global, suites: &[Wanted], manifest: &mut Manifest) -> Result<(), AllocError> {
     for suite in suites {
         if let Some(shown) = suite.shown() {
@@ -129,8 +129,8 @@ fn tell_shown(alloc: Global, suites: &[Wanted], manifest: &mut Manifest) -> Resu
     Ok(())
 }
 
-/// Has the manifest say what is left, and what is shown; it answers how many paths are left. What is no file of the pool is left only if
-/// each suite shows what it is to show: else an index may name it.
+/// Notes in the manifest what is left and what is shown. Answers how many paths it has that are not in the pool. They are noted as left
+/// only if each suite shows what it is to show: else an index may name them.
 pub fn leave(
     alloc: Global,
     shelves: &Shelves,
@@ -159,7 +159,7 @@ pub fn save<R: Disk>(rt: &R, site: &Site<R>, manifest: &mut Manifest) -> Result<
     Ok(())
 }
 
-/// Removes what an export that was stopped left half made. It takes room; if it stays, that is all.
+/// Removes what an export that was stopped left half made. It only takes room, so a failure to remove it is passed over.
 pub fn remove_cut<R: Disk>(rt: &R, site: &Site<R>, suites: &[Wanted]) -> Result<(), AllocError> {
     let _ = site.remove_cut(rt);
     for suite in suites {
@@ -194,7 +194,7 @@ pub fn remove_old_states<R: Disk>(
     Ok(())
 }
 
-/// Puts a page at its name in the tree, if another text or another kind of file is there.
+/// Puts a page at its name in the tree, unless a file with this text is there.
 pub fn write_page<R: Disk>(
     rt: &R,
     site: &Site<R>,

@@ -14,7 +14,8 @@ use tree::{Step, plan};
 /// The most bytes of a manifest that is read.
 const MOST_OF_MANIFEST: u64 = 1 << 30;
 
-/// How many files of the pool were written, how many were there, how many that are no more of the pool are left, and how many went.
+/// How many files of the pool were written, how many were there, how many are left that no longer belong to the pool, and how many were
+/// removed.
 #[derive(Clone, Copy, Default)]
 pub struct Counts {
     pub new: usize,
@@ -49,7 +50,7 @@ fn shows_something(suites: &[Wanted]) -> bool {
     suites.iter().any(|suite| suite.is_changed || suite.standing == Standing::Shows)
 }
 
-/// The steps of an export. What was left goes only if something is shown that was not when it was left.
+/// The steps of an export. What was left is removed only if something is shown that was not shown when it was left.
 pub fn steps_of(
     alloc: Global,
     shelves: &Shelves,

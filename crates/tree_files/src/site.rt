@@ -6,7 +6,7 @@ use folders::{Disk, Folder, FolderFault, Kept};
 /// The name that a file has in the folder of exports until it has its place.
 const NEW: &str = "new";
 
-/// The name that a link has there.
+/// The name that a link has in the folder of exports until it has its place.
 const LINK: &str = "link";
 
 /// The folders of a tree, open, and what an export never touches.
@@ -52,7 +52,7 @@ impl<R: Disk> Site<R> {
         self.own.move_to(rt, &self.kept, NEW, folder, name)
     }
 
-    /// Puts a file at a name in a folder: it is written beside, and renamed there. Where that fails, what was written beside is removed.
+    /// Puts a file at a name in a folder: it is written beside, and renamed there. If that fails, what was written beside is removed.
     ///
     /// Refused as `Place` if what has the name is the database's or a folder, or if the disk fails, and for want of memory.
     pub fn put(
@@ -84,8 +84,8 @@ impl<R: Disk> Site<R> {
         self.own.move_to(rt, &self.kept, LINK, folder, name)
     }
 
-    /// Gives the contents of a file of a folder a further name in another one, by one more name of the file, or a copy if the disk has no such
-    /// names. It is there whole or not at all, in the place of what has the name.
+    /// Gives a file of a folder a further name in another one. If the disk has no further names, a copy is put there, whose contents are
+    /// `body`. It is there whole or not at all, in the place of what has the name.
     pub fn put_too(
         &self,
         rt: &R,

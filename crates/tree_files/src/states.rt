@@ -28,20 +28,20 @@ pub struct Wanted {
     pub paths: Vec<String>,
     /// The name of the state's folder.
     pub state: String,
-    /// The name of the state that the link leads to, where it leads to one.
+    /// The name of the state that the link leads to, if it leads to one.
     pub link: Option<String>,
-    /// The name of the state that was shown before that one, where it is known.
+    /// The name of the state that was shown before that one, if it is known.
     pub before: Option<String>,
     /// Whether the link led elsewhere when the manifest was written.
     pub is_changed: bool,
     /// Whether the state's folder is there.
     pub is_made: bool,
-    /// How many of the state's texts were mended.
+    /// How many of the state's files were mended.
     pub mended: usize,
     pub standing: Standing,
 }
 
-/// A copy of a text, where there is one.
+/// A copy of a text, if there is one.
 fn copied(alloc: Global, text: Option<&str>) -> Result<Option<String>, AllocError> {
     match text {
         Some(text) => Ok(Some(String::from_str(alloc, text)?)),
@@ -263,7 +263,7 @@ pub fn shows_signed<R: Disk>(rt: &R, site: &Site<R>, suite: &Wanted) -> Result<b
     }
 }
 
-/// Whether the state of a suite has no signature, and that which it showed before had one.
+/// Whether a suite shows a state without a signature after the export, and the state that it showed before has one.
 pub fn has_lost_signature<R: Disk>(
     rt: &R,
     site: &Site<R>,

@@ -51,8 +51,8 @@ pub fn move_state<R: Disk>(
     site.dists.move_to(rt, &site.kept, new, &site.dists, state)
 }
 
-/// The moment that a file is to be modified at, after one that was modified at another: now, or one second later than that. Web servers tell
-/// whole seconds apart.
+/// The time of modification that a file is to have if it follows one that was modified at `before`: now, or one second after `before` if
+/// that is later. Web servers count in whole seconds.
 fn moment_after<R: Disk>(rt: &R, before: Option<SystemTime>) -> Option<SystemTime> {
     let now = SystemTime::now(rt).ok();
     let Some(before) = before else {
@@ -79,7 +79,7 @@ fn released_at<R: Disk>(
     }
 }
 
-/// When the Release that a suite shows, which is another one than it is to show, was modified, if that is known.
+/// When the Release that a suite shows was modified, if it is another one than the suite is to show, and if that is known.
 fn shown_at<R: Disk>(
     rt: &R,
     site: &Site<R>,
@@ -91,7 +91,7 @@ fn shown_at<R: Disk>(
     }
 }
 
-/// Has the Release of a suite's state be modified after that of the state which is shown.
+/// Sets the time of modification of the Release of a suite's state: later than that of the state which is shown.
 pub fn touch_release<R: Disk>(rt: &R, site: &Site<R>, suite: &Wanted) -> Result<(), FolderFault> {
     let before = shown_at(rt, site, suite)?;
     match (
