@@ -23,7 +23,7 @@ IsNamed found name P = (rows : List Row) × (found ≡ Some (name, rows)) × P r
 abbrev pub IsWord : Text → List Row → Bor (List ℕ) → Type 0
 IsWord id rows word = first_of id rows ≡ Some word.now
 
--- the word is the value of this argument, where it was given one
+-- the word is the value of this argument, if it was given one
 abbrev pub IsOptionalWord : Text → List Row → Option (Bor (List ℕ)) → Type 0
 IsOptionalWord id rows word = option_map (λ text. text.now) word ≡ first_of id rows
 
@@ -55,7 +55,7 @@ pub record IsNumber (id : Text) (rows : List Row) (least most n : ℕ) : Type 0 
 abbrev pub IsMoment : List Row → ℕ → Type 0
 IsMoment rows at = IsNumber (codes "at") rows 0 latest at
 
--- the moment that was handed in, where one was
+-- the moment that was handed in, if one was
 abbrev pub IsOptionalMoment : List Row → Option ℕ → Type 0
 IsOptionalMoment rows (Some at) = IsMoment rows at
 IsOptionalMoment rows None = first_of (codes "at") rows ≡ None
@@ -94,7 +94,7 @@ has_both signed unsigned = signed && unsigned
 abbrev pub lacks_export : Serving → Bool
 lacks_export serving = not (is_some serving.export) && ((serving.signed || serving.unsigned) || serving.by_hash)
 
--- the command and each value are those that were found, flags of an export come with its folder, and none says the contrary of another
+-- the command and each value are those that were found, flags of an export come with its folder, and no flag contradicts another
 abbrev pub IsLine : Option (Text × List Row) → CommandLine → Type 0
 IsLine found (Try paths) = IsNamed found (codes "try") (λ rows. HasPaths rows paths)
 IsLine found (Compare left right) = IsNamed found (codes "compare") (λ rows.

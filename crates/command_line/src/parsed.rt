@@ -18,7 +18,7 @@ pub struct Manner {
 /// How what the suites show is written into a folder.
 #[derive(Clone, Copy, Debug)]
 pub struct Exporting<'a> {
-    /// The moment of the page on uploads, where one was given, in seconds since 1970-01-01 00:00:00 UTC.
+    /// The moment of the page on uploads, if one was given, in seconds since 1970-01-01 00:00:00 UTC.
     pub at: Option<u64>,
     pub dir: &'a str,
     /// Whether a suite is shown only once its new state is signed.
@@ -38,11 +38,11 @@ pub struct Serving<'a> {
     pub moments: Option<&'a str>,
     /// Whether each connection has a line on standard error.
     pub log: bool,
-    /// The folder that is exported to behind each connection with a POST.
+    /// The folder that is exported to after each connection with a POST.
     pub export: Option<&'a str>,
-    /// Whether that shows a suite only once its new state is signed.
+    /// Whether the export shows a suite only once its new state is signed.
     pub signed: bool,
-    /// Whether a suite that it shows signed is shown unsigned from now on.
+    /// Whether a suite that the export shows signed is shown unsigned from now on.
     pub unsigned: bool,
     /// Whether each index text also stands there under its SHA-256.
     pub by_hash: bool,
@@ -80,7 +80,7 @@ pub enum CommandLine<'a> {
         request: LineRequest<'a>,
         manner: Manner,
     },
-    /// Does the commands of a list, which is a file, or standard input where it is `-`.
+    /// Does the commands of a list, which is a file, or standard input if it is `-`.
     Batch {
         db: &'a str,
         at: u64,
@@ -94,8 +94,8 @@ pub enum CommandLine<'a> {
         at: u64,
         conf: &'a str,
     },
-    /// Makes an archive of today's layout in a database file, with the configuration of a file, from the archive of an older layout that
-    /// another database file holds.
+    /// Makes an archive of the current layout in a database file, with the configuration of a file, from the archive of an older layout
+    /// that another database file holds.
     Migrate {
         from: &'a str,
         db: &'a str,
@@ -114,12 +114,12 @@ pub enum CommandLine<'a> {
         /// Whether each item is a line of JSON.
         json: bool,
     },
-    /// Says why uploads have the verdicts that they have, and what those lack that wait.
+    /// Says why uploads have the verdicts that they have, and what waiting uploads lack.
     Why {
         db: &'a str,
-        /// The moment at which they wait, where one was given.
+        /// The moment at which they wait, if one was given.
         at: Option<u64>,
-        /// The name of their .changes. Without it, all that wait are told.
+        /// The name of their .changes. Without it, the command is about all that wait.
         name: Option<&'a str>,
         /// Whether each upload is a line of JSON.
         json: bool,
@@ -145,9 +145,9 @@ pub enum CommandLine<'a> {
 pub enum LineFault {
     /// No memory was left.
     OutOfMemory,
-    /// Help or the version was asked for, which is this text.
+    /// Help or the version was asked for: this is its text.
     Help(Error),
-    /// The words are no line, for which this text says why.
+    /// The words are not a line: this text says why.
     Refused(Error),
 }
 

@@ -26,11 +26,11 @@ fn refusal(alloc: Global) -> Result<LineFault, AllocError> {
     Ok(LineFault::Refused(error))
 }
 
-/// What clap says where another argument needs `--export`.
+/// What clap says if another argument needs `--export`.
 const WITHOUT_EXPORT: &str =
     "the following required arguments were not provided:\n  --export <DIR>";
 
-/// What clap says where `--signed` and `--unsigned` exclude each other.
+/// What clap says if `--signed` and `--unsigned` are both given.
 const BOTH: &str = "the argument '--signed' cannot be used with '--unsigned'";
 
 /// The refusal of a line of `serve` that has an option of an export, and no `--export`.
@@ -128,7 +128,7 @@ pub fn moment(alloc: Global, found: &ArgMatches<'_>) -> Result<u64, LineFault>
     number(alloc, found, "at", 0, LATEST)
 }
 
-/// The moment, in seconds since 1970-01-01 00:00:00 UTC, where one was given.
+/// The moment, in seconds since 1970-01-01 00:00:00 UTC, if one was given.
 pub fn optional_moment(alloc: Global, found: &ArgMatches<'_>) -> Result<Option<u64>, LineFault>
     ensures { IfOk result (IsOptionalMoment (rows_of (found_of found.now))) }
 {

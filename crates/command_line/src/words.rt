@@ -40,9 +40,9 @@ use usage::archive_command;
 /// serve --db FILE --at N [--moments MOMENTS] [--log] [--export DIR] [--signed | --unsigned] [--by-hash] ADDRESS COUNT
 /// ```
 ///
-/// where `PATH..` is one path or more, `[SOURCE..]` any number of sources, N is 0 to 4102444799 and COUNT 1 to 1000000. It is
-/// refused with the text of the help or the version that was asked for, or with one that says why the words are no line; where
-/// there are none, that is the help.
+/// in which `PATH..` is one path or more, `[SOURCE..]` any number of sources, N is 0 to 4102444799 and COUNT 1 to 1000000. It is refused
+/// with the text of the help or the version if that was asked for, or else with one that says why the words are not a line. If there are no
+/// words, that is the help.
 pub fn line<'a>(alloc: Global, words: &'a [&'a str]) -> Result<CommandLine<'a>, LineFault>
     ensures said { IfOk result (IsLine (subcommand_of archive_app (map (λ word. word.now) words.entry.now))) }
     // Only words in which clap finds no fault are a line.

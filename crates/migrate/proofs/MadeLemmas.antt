@@ -50,7 +50,7 @@ coming_prop t h k i = record { rows = tables_set _ _ h.rows k.rows i }
 abbrev pub IsOldBook : OldBook → Type 0
 IsOldBook old = ∥ IsBook (tables_with old.rows) old.held.config old.held.judged.items old.held.shelves old.held.dates.items ∥₁
 
--- where the database holds the rows, under a configuration that is alike
+-- if the database holds the rows, under a configuration that is alike
 module _ (db : Database) (old : OldBook) (config : ConfigValue) (moment : ℕ) (held : Holds db (migrated_rows old config moment)) (was : IsOldBook old) (alike : AreAlike (old_config old) config)
     (read : config_in config.text ≡ Ok config) (early : moment ≤ latest) where
   -- no body is coming,

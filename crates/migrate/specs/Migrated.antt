@@ -13,7 +13,8 @@ use Rattle.migrating.specs.Migrating.{moved_book, moved_rows}
 abbrev pub old_config : OldBook → ConfigValue
 old_config old = old.held.config
 
--- the configuration has the suites that the book had, in their order; only for how long arrivals count, and a Release is valid, may differ
+-- the configuration has the suites that the book had, in their order; only how long arrivals count and how long a Release is valid may
+-- differ
 abbrev pub HasItsSuites : OldBook → ConfigValue → Type 0
 HasItsSuites old config = AreAlike (old_config old) config
 

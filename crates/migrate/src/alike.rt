@@ -60,7 +60,7 @@ fn are_alike_options<T: Compared>(one: &Option<T>, other: &Option<T>) -> bool
     }
 }
 
-/// Whether as many stand in both, each alike to that at its place in the other.
+/// Whether both lists have the same number of items, each alike to the one at its place in the other.
 fn are_alike_lists<T: Compared>(ones: &[T], others: &[T]) -> bool
     ensures { IsTrue result ↔ (map T.compared ones.now ≡ map T.compared others.now) }
 {

@@ -54,7 +54,7 @@ fn renew<S: Alter>(
     renew_dates(tx, suites, change.moment, steps)
 }
 
-/// Writes a change after so many judgements, inside a transaction.
+/// Writes a change after `judged` judgements, inside a transaction.
 fn write_inside<S: Alter>(
     alloc: Global,
     tx: &mut Transaction<'_, S>,
@@ -75,7 +75,7 @@ fn write_inside<S: Alter>(
     renew(tx, config, change)
 }
 
-/// Makes a change after so many judgements, inside a transaction. Where it sweeps, bodies that nothing uses then go.
+/// Makes a change after `judged` judgements, inside a transaction. If it sweeps, bodies that nothing uses then are removed.
 fn amend_inside<S: Alter>(
     alloc: Global,
     tx: &mut Transaction<'_, S>,
@@ -97,8 +97,8 @@ fn amend_inside<S: Alter>(
     Ok(())
 }
 
-/// Makes a change after so many judgements, whole or not at all, also over a crash. It is refused where a file that it adds
-/// to the pool has no body. Where it sweeps, bodies that nothing uses then go.
+/// Makes a change after `judged` judgements, whole or not at all, also over a crash. It is refused if a file that it adds to the pool has
+/// no body. If it sweeps, bodies that nothing uses then are removed.
 pub fn amend<S: Alter>(
     alloc: Global,
     conn: &mut Connection<S>,

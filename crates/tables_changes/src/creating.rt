@@ -1,8 +1,8 @@
 //! A new archive in a database.
 //!
-//! A new archive is made in a database that holds no object at all, also no view. So the archive's tables come first wherever there are
-//! some, since VACUUM and a dump keep the order of tables. After others their places would be unknown, and what each statement means would
-//! have to be proved of any places.
+//! A new archive is made in a database that holds no object at all, not even a view. So the archive's tables come first in each database
+//! that has them, since VACUUM and a dump keep the order of tables. After other tables their places would be unknown, and what each
+//! statement means would have to be proved of any places.
 
 ghost use Rattle.std.specs.Prelude.{◌≡◌, ◌≤◌, ◌↔◌, false, IsTrue, OnOk};
 ghost use Rattle.sqlite.specs.State.{Survives};

@@ -263,7 +263,7 @@ pub fn shows_signed<R: Disk>(rt: &R, site: &Site<R>, suite: &Wanted) -> Result<b
     }
 }
 
-/// Whether a suite shows a state without a signature after the export, and the state that it showed before has one.
+/// Whether an export has a suite show a state without a signature, and the state that it showed before has one.
 pub fn has_lost_signature<R: Disk>(
     rt: &R,
     site: &Site<R>,

@@ -51,7 +51,7 @@ fn judge<S: Alter>(
     }
 }
 
-/// The place behind the last.
+/// The place after the last.
 fn place_after(judged: u64) -> Result<u64, Error>
     ensures { IfOk result (λ place. place ≡ judged + 1) }
 {
@@ -61,7 +61,7 @@ fn place_after(judged: u64) -> Result<u64, Error>
     }
 }
 
-/// Judges the upload of a judgement, if there is one, after so many others. It answers how many are judged then.
+/// Judges the upload of a judgement, if there is one, after `judged` others. It answers how many are judged then.
 pub(crate) fn judge_if_any<S: Alter>(
     alloc: Global,
     tx: &mut Transaction<'_, S>,

@@ -27,7 +27,7 @@ fn remove_files<S: Alter>(tx: &mut Transaction<'_, S>, files: &[PoolFile]) -> Re
     Ok(())
 }
 
-/// Adds a file of the pool. It is refused where no body of its print has arrived.
+/// Adds a file of the pool. It is refused if no body of its print has arrived.
 fn add_file<S: Alter>(
     alloc: Global,
     tx: &mut Transaction<'_, S>,

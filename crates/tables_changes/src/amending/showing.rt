@@ -178,7 +178,7 @@ fn put_up_all<S: Alter>(
     Ok(())
 }
 
-/// Takes the items down that a plan drops, and puts those up that it puts.
+/// Takes down the items that a plan drops, and puts up those that it puts.
 pub(crate) fn change_items<S: Alter>(
     alloc: Global,
     tx: &mut Transaction<'_, S>,

@@ -32,7 +32,7 @@ fn make_plan<S: Alter>(
     change_pool(alloc, tx, plan)
 }
 
-/// Makes a step after so many judgements. It answers how many uploads are judged then.
+/// Makes a step after `judged` judgements. It answers how many uploads are judged then.
 fn make_step<S: Alter>(
     alloc: Global,
     tx: &mut Transaction<'_, S>,
@@ -52,7 +52,7 @@ fn make_step<S: Alter>(
     Ok(after)
 }
 
-/// Makes the steps in order, after so many judgements.
+/// Makes the steps in order, after `judged` judgements.
 pub(crate) fn make_steps<S: Alter>(
     alloc: Global,
     tx: &mut Transaction<'_, S>,
