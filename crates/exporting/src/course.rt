@@ -73,7 +73,8 @@ fn make<R: Disk, K: Keeper, T: Watcher>(
     Ok(left)
 }
 
-/// Clears the tree of what an export that was stopped left, writes the manifest, and has the suites leave that are no more.
+/// Clears the tree of what an export that was stopped left, writes the manifest, and removes the suites that the configuration no longer
+/// has. Answers their codenames.
 fn prepare<R: Disk>(
     rt: &R,
     job: &Job<'_, R>,

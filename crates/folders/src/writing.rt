@@ -75,7 +75,7 @@ impl<R: Disk> Folder<R> {
         }
     }
 
-    /// Removes the folder of a name in this one, if it is empty. It says whether that is done.
+    /// Removes the folder of a name in this one, if it is empty. It answers whether that is done.
     pub fn remove_empty(&self, rt: &R, name: &str) -> Result<bool, FolderFault> {
         let place = self.place_of(rt.alloc(), name)?;
         Ok(fs::remove_dir(rt, place.as_str()).is_ok())
@@ -117,8 +117,8 @@ impl<R: Disk> Folder<R> {
         to.given(rt.alloc(), new_name, done)
     }
 
-    /// Gives the file of a name in this folder a further name in another one. It says whether that is done: it is not if something has the
-    /// name, or the file system has no further names.
+    /// Gives the file of a name in this folder a further name in another one. It answers whether that is done: it is not if something has
+    /// the name, or if the file system has no further names.
     pub fn name_too(
         &self,
         rt: &R,

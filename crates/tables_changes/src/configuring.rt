@@ -1,7 +1,7 @@
 //! Another configuration in the rows of an archive, as one transaction.
 //!
 //! All texts, all dates and the configuration are written anew, also those that stay as they are: their rows have to be in the order of the
-//! configuration. A configuration with the text that is there already is a commit that changes nothing.
+//! configuration. To write the configuration that is there already is a commit that changes nothing.
 
 ghost use Rattle.std.specs.Prelude.{◌≡◌, ◌≤◌, false, All, length, OnOk};
 ghost use Rattle.sqlite.specs.State.{Survives};

@@ -115,7 +115,7 @@ impl<R: Disk> Near<R> {
         }
     }
 
-    /// Goes to the folder at a path, above which there is another one.
+    /// Goes to the folder at a path, in which the wanted one lies.
     fn go_above(&mut self, rt: &R, root: &Folder<R>, path: &str) -> Result<(), FolderFault> {
         if self.above_path.as_str() != path {
             self.above = root.way(rt, path)?;
