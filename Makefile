@@ -1,9 +1,9 @@
 # try: the main job on stored files; build: prove and build the program; install: copy what was built, and what is in bin, to PREFIX/bin;
 # deb: a Debian package of that, in packaging/out; check: what takes seconds, before each commit: the layout of the code, the pages, the
-# texts that rows share, and whether the wrong bodies fit the text; test: the gate and all other tests (tests/run.py); test-long: tests of
-# the built program that take minutes (tests/run_long.py); growths: each growth of each call refused once, by the program `test_archives`
-# that the gate built (tests/refuse_growths.py); wrong: the wrong bodies that the gate leaves out, from where the last run was cut off;
-# soak: a million commands with kills among them (tests/soak.py), from where the last run was stopped.
+# words of comments, the texts that rows share, and whether the wrong bodies fit the text; test: the gate and all other tests
+# (tests/run.py); test-long: tests of the built program that take minutes (tests/run_long.py); growths: each growth of each call refused
+# once, by the program `test_archives` that the gate built (tests/refuse_growths.py); wrong: the wrong bodies that the gate leaves out,
+# from where the last run was cut off; soak: a million commands with kills among them (tests/soak.py), from where the last run was stopped.
 PREFIX ?= /usr/local
 PROGRAM = crates/archive/out/archive
 
@@ -26,7 +26,7 @@ deb:
 	@packaging/make_deb $(PROGRAM) packaging/out
 
 check:
-	@status=0; for it in checks/format checks/pages 'python3 -m tests.test_pages' 'python3 -m tests.test_texts' 'checks/try_wrong_bodies --read'; do $$it || status=1; done; exit $$status
+	@status=0; for it in checks/format checks/pages checks/words 'python3 -m tests.test_pages' 'python3 -m tests.test_texts' 'checks/try_wrong_bodies --read'; do $$it || status=1; done; exit $$status
 
 test:
 	@python3 -m tests.run

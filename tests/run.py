@@ -1,9 +1,10 @@
 """All tests of this repository, one after another, as `make test` and CI run them.
 
-First come those that take seconds: whether the pages and the wrong bodies fit the sources, and the tests of the tools. Then
-comes the gate, rt ci, and after it the tests of the program that it built. Each is run, even if one before it failed. At the end
-a line says once more how long the gate took. Each test that was skipped has a line, below what there is not on this machine, and then comes a line that
-counts them. The last line is 'N passed, M failed': what the gate counts, and one more for each of the others. The status is 0 if none failed."""
+First come those that take seconds: whether the pages and the wrong bodies fit the sources, the words of comments, and the tests of the
+tools. Then comes the gate, rt ci, and after it the tests of the program that it built. Each is run, even if one before it failed. At the
+end a line says once more how long the gate took. Each test that was skipped has a line, below what there is not on this machine, and then
+comes a line that counts them. The last line is 'N passed, M failed': what the gate counts, and one more for each of the others. The status
+is 0 if none failed."""
 import os
 import re
 import shutil
@@ -15,10 +16,12 @@ import time
 ROOT = os.path.dirname(os.path.dirname(os.path.abspath(__file__)))
 BEFORE = [
     "checks/pages",
+    "checks/words",
     "checks/try_wrong_bodies --read",
     "tests.test_pages",
     "tests.test_texts",
     "tests.test_format",
+    "tests.test_words",
     "tests.test_using",
     "tests.test_wrong_bodies",
     "tests.test_ports",
