@@ -4,8 +4,8 @@ use crate::database::{InFile, close, create_archive, migrate_archive, open_archi
 use crate::fault::Stop;
 use crate::files::conf_body_of;
 use crate::print;
-use checking::{can_be_exported, check_lines, unknown_fields};
 use keep::{Keeper, LATEST};
+use output::checking::{can_be_exported, check_lines, unknown_fields};
 use queue::Fault;
 use rules::Config;
 use std::alloc::Global;

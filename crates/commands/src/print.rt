@@ -18,7 +18,7 @@ use crate::files::{body_of, file_name, opened};
 use crate::progress::Progress;
 use crate::shown::Shown;
 use keep::{Keeper, LATEST};
-use listing::{shown_json, shown_lines, verdict_json, waiting_json};
+use output::listing::{shown_json, shown_lines, verdict_json, waiting_json};
 use queue::{Archive, Arrived, Fault, Promotion, Report};
 use rules::Config;
 use std::alloc::{AllocError, Global};

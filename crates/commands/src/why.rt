@@ -7,11 +7,11 @@ ghost use Rattle.queue.specs.Steps.{Reads};
 
 use crate::fault::Stop;
 use crate::print::{print_line, print_lines};
-use explaining::{Answer, answer_json, answer_lines, waiting_json, waiting_lines};
 use inquiry::{
     Lack, WaitingUpload, arrived_as_waiting, lacks_of, read_changes, read_upload, waiting_uploads,
 };
 use keep::{ArrivedFile, Counting, Judgement, Keeper, LATEST, Waiting};
+use output::explaining::{Answer, answer_json, answer_lines, waiting_json, waiting_lines};
 use queue::{Archive, Fault};
 use std::alloc::{AllocError, Global};
 use std::io::Write;

@@ -4,7 +4,7 @@ use crate::outcomes::report_text;
 use crate::steps::{moment_of, path_of};
 use inquiry::{Lack, WaitingUpload, lacks_of, read_changes, read_upload, waiting_uploads};
 use keep::{ArrivedFile, Counting, Judgement, Keeper};
-use listing::shown_lines;
+use output::listing::shown_lines;
 use queue::{Archive, Fault, Report};
 use reasons::{Named, Reason, reason_of};
 use rules::Config;
