@@ -1,3 +1,7 @@
+pub mod AlikeSuites
+pub mod FoundedRows
+pub mod CopiedRows
+pub mod MovedArchive
 pub mod WrittenLemmas
 pub mod HeldLemmas
 pub mod MadeLemmas

@@ -16,7 +16,7 @@ use Rattle.tables_meaning.specs.Kept.{IsBook}
 use Rattle.tables_meaning.specs.KeeperLemmas.{book_set}
 use Rattle.tables_meaning.specs.Shown.{shown_in}
 use Rattle.old_book.specs.declared.book.OldBook.{OldBook}
-use Rattle.migrating.proofs.MovedArchive.{moved_archive_book, moved_archive_kept}
+use Rattle.migrate.proofs.MovedArchive.{moved_archive_book, moved_archive_kept}
 use Rattle.migrate.specs.Migrated.{migrated_book, migrated_rows, old_config}
 use Rattle.migrate.proofs.HeldLemmas.{archive_held, book_held, none_comes}
 

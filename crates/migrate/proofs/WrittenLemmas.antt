@@ -6,9 +6,9 @@ use Rattle.suites.specs.Shelves.{ShelvesValue}
 use Rattle.tables.specs.Rows.{Tables, Changes}
 use Rattle.tables_meaning.specs.Configuring.{with_configured}
 use Rattle.tables_meaning.specs.Founding.{Founds, founded}
-use Rattle.copying.specs.Copying.{Copies, copied}
-use Rattle.migrating.specs.Migrating.{moved_rows}
-use Rattle.migrating.proofs.FoundedRows.{founded_bare}
+use Rattle.old_book.specs.Copying.{Copies, copied}
+use Rattle.migrate.specs.Migrating.{moved_rows}
+use Rattle.migrate.proofs.FoundedRows.{founded_bare}
 
 -- These three, one after another, found the archive that is moved.
 pub founds_moved : (a b c d : State) (config : ConfigValue) (shown : ShelvesValue) (dates : List ℕ) (moment : ℕ) (t : Tables) → Founds a b (founded config moment) → Copies b c t moment

@@ -7,7 +7,7 @@ use Rattle.tables.specs.Rows.{Tables}
 use Rattle.tables_read.specs.All.{tables_with}
 use Rattle.tables_meaning.specs.Kept.{book_in}
 use Rattle.old_book.specs.declared.book.OldBook.{OldBook}
-use Rattle.migrating.specs.Migrating.{moved_book, moved_rows}
+use Rattle.migrate.specs.Migrating.{moved_book, moved_rows}
 
 -- the configuration that the book had
 abbrev pub old_config : OldBook → ConfigValue

@@ -9,9 +9,8 @@ ghost use Rattle.migrate.specs.Migrated.{migrated_rows, old_config};
 ghost use Rattle.tables.specs.Calls.{CommitsNothing, Inside, IsSame, KeepsCommitted, OnCleanDisk};
 ghost use Rattle.tables_meaning.specs.Calls.{Undoes};
 
-use copying::write_rows;
 use keep::LATEST;
-use old_book::OldBook;
+use old_book::{OldBook, write_rows};
 use rules::Config;
 use sqlite::{Alter, Connection, Error, Transaction};
 use std::alloc::Global;

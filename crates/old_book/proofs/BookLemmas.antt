@@ -12,7 +12,7 @@ use Rattle.tables_read.specs.All.{AreConstrained}
 use Rattle.tables_meaning.specs.Kept.{AreReadable, IsBook, bytes_of, is_placed, is_used, judged_row}
 use Rattle.tables_audit.specs.Parts.{BodiesFit, UploadsFit}
 use Rattle.tables_audit.specs.Whole.{KeepsNone}
-use Rattle.copying.specs.Copying.{AreRising}
+use Rattle.old_book.specs.Copying.{AreRising}
 use Rattle.old_book.specs.Old.{HasText, IsOldArchive, KeepsNoOld}
 use Rattle.old_book.specs.Settling.{has_judged, settled, unjudged, unjudged_uploads, with_meta_row}
 use Rattle.old_book.proofs.ConstrainedLemmas.{constrained_renewed, constrained_unjudged}

@@ -14,7 +14,7 @@ use Rattle.tables.specs.declared.rows.Ref.{Ref}
 use Rattle.tables.specs.declared.rows.UploadRow.{UploadRow}
 use Rattle.tables.specs.declared.rows.Want.{Want}
 use Rattle.tables_read.specs.All.{AreConstrained, is_body_there, name_and_print}
-use Rattle.copying.specs.Copying.{anew, arrived_at, copied}
+use Rattle.old_book.specs.Copying.{anew, arrived_at, copied}
 use Rattle.old_book.specs.Settling.{as_unjudged, settled, unjudged, unjudged_uploads, with_meta_row}
 
 -- ---- rows that are numbered anew keep their values

@@ -5,7 +5,7 @@ use Rattle.std.proofs.lemmas.Bool.{and_parts, lt-ltb, ltb-true}
 use Rattle.sqlite_keyed.proofs.ListLemmas.{all_weaker}
 use Rattle.tables.specs.Rows.{Numbered, Rises, Tables}
 use Rattle.old_book.specs.Rising.{is_rising, rise_behind}
-use Rattle.copying.specs.Copying.{AreRising}
+use Rattle.old_book.specs.Copying.{AreRising}
 
 module _ {X : Type 0} where
   rise_above : (k : ℕ) (xs : Numbered X) → rise_behind (Some k) xs ≡ true → AllByRecursion (λ x. k < x.0) xs × Rises xs

@@ -1,3 +1,5 @@
+pub mod Copying
+pub mod Placed
 pub mod Bodied
 pub mod Books
 pub mod Old

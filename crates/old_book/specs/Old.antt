@@ -9,8 +9,8 @@ use Rattle.tables.specs.declared.meta.TheConstants.{VERSION}
 use Rattle.tables.specs.declared.rows.Meta.{Meta}
 use Rattle.tables_meaning.specs.Kept.{AreReadable, IsBook}
 use Rattle.tables_audit.specs.Parts.{UploadsFit}
-use Rattle.copying.specs.Copying.{AreRising}
 use Rattle.old_rows.specs.Layouts.{AreShown, Asked, ShowsNone, older_layouts}
+use Rattle.old_book.specs.Copying.{AreRising}
 use Rattle.old_book.specs.Settling.{settled, unjudged, with_meta_row}
 use Rattle.old_book.specs.Text.{without_days}
 

@@ -1,9 +1,9 @@
 //! The book of an archive of an older layout.
 
 ghost use Rattle.std.specs.Prelude.{◌≡◌, true};
-ghost use Rattle.copying.specs.Copying.{AreRising};
 ghost use Rattle.tables_meaning.specs.Kept.{IsBook};
 ghost use Rattle.tables_read.specs.All.{tables_with};
+ghost use Rattle.old_book.specs.Copying.{AreRising};
 ghost use Rattle.old_book.specs.Rising.{is_rising};
 
 use keep::Judgement;

@@ -3,11 +3,11 @@
 ghost use Rattle.std.specs.Prelude.{◌≡◌, None, false, IfOk, IfSome, OnOk, OnErr};
 ghost use Rattle.sqlite.specs.State.{HasCleanDisk, IsUnchanged};
 ghost use Rattle.sqlite.specs.Held.{state};
-ghost use Rattle.copying.specs.Copying.{AreRising};
 ghost use Rattle.tables_meaning.specs.Kept.{AreReadable};
 ghost use Rattle.tables.specs.Rows.{Fails};
 ghost use Rattle.tables_read.specs.All.{AreConstrained, tables_with};
 ghost use Rattle.old_rows.specs.Layouts.{AreSelects};
+ghost use Rattle.old_book.specs.Copying.{AreRising};
 ghost use Rattle.old_book.specs.Old.{IsNoOldArchive, KeepsNoOld, KeepsNoneAs};
 ghost use Rattle.old_book.specs.Books.{IsBookOf, IsOldBookIn, IsShownBook};
 ghost use Rattle.tables.specs.Calls.{NeverCommits, OnCleanDisk};

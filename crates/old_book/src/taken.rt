@@ -1,13 +1,13 @@
 //! Whether the keys of today's tables hold of rows.
 
 ghost use Rattle.std.specs.Prelude.{IfOk, IsTrue, OnOk};
-ghost use Rattle.copying.specs.Copying.{AreRising, copied};
 ghost use Rattle.sqlite.specs.Held.{state};
 ghost use Rattle.sqlite.specs.Steps.{over_memory};
 ghost use Rattle.tables.specs.Rows.{Holds, no_rows};
 ghost use Rattle.tables_read.specs.All.{AreConstrained, tables_with};
+ghost use Rattle.old_book.specs.Copying.{AreRising, copied};
 
-use copying::write_rows;
+use crate::rows::write_rows;
 use sqlite::{Connection, Error, MemStore};
 use std::alloc::Global;
 use tables::schema::create_tables;

@@ -10,9 +10,9 @@ use Rattle.tables_meaning.specs.Founding.{Founds}
 use Rattle.tables_meaning.proofs.AmendLemmas.{survives_both}
 use Rattle.tables_meaning.proofs.FoundLemmas.{keeps_if_founded}
 use Rattle.tables_read.specs.All.{tables_with}
-use Rattle.copying.specs.Copying.{AreRising}
-use Rattle.migrating.specs.Migrating.{moved_rows}
-use Rattle.migrating.proofs.AlikeSuites.{alike_length}
+use Rattle.old_book.specs.Copying.{AreRising}
+use Rattle.migrate.specs.Migrating.{moved_rows}
+use Rattle.migrate.proofs.AlikeSuites.{alike_length}
 use Rattle.migrate.specs.Migrated.{migrated_rows}
 use Rattle.migrate.proofs.WrittenLemmas.{founds_moved}
 use Rattle.migrate.proofs.writing.migrate_inside.Goals as goal

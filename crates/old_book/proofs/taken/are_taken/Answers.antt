@@ -3,7 +3,7 @@ use Rattle.sqlite.specs.Steps.{over_memory}
 use Rattle.tables.specs.Rows.{no_rows}
 use Rattle.tables_read.specs.All.{tables_with}
 use Rattle.tables_read.specs.Keys.{constrained}
-use Rattle.copying.specs.Copying.{copied}
+use Rattle.old_book.specs.Copying.{copied}
 use Rattle.old_book.proofs.ConstrainedLemmas.{constrained_copied}
 use Rattle.old_book.proofs.taken.are_taken.Goals as goal
 

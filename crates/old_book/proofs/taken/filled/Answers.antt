@@ -6,7 +6,7 @@ use Rattle.sqlite.proofs.Callers.{memory_is_clean}
 use Rattle.tables.specs.Rows.{Holds, no_rows}
 use Rattle.tables.specs.Schema.{no_schema}
 use Rattle.tables_read.specs.All.{tables_with}
-use Rattle.copying.specs.Copying.{IsBare, copied}
+use Rattle.old_book.specs.Copying.{IsBare, copied}
 use Rattle.old_book.proofs.taken.filled.Goals as goal
 
 pub returns-clause-open : goal.returns-clause-open

@@ -1,4 +1,0 @@
-pub mod AlikeSuites
-pub mod FoundedRows
-pub mod CopiedRows
-pub mod MovedArchive

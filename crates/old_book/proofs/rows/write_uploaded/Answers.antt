@@ -1,0 +1,35 @@
+use Rattle.std.proofs.Common.{arith}
+use Rattle.std.proofs.lemmas.Result.{on_err_weaker}
+use Rattle.sqlite.specs.State.{HasCleanDisk}
+use Rattle.sqlite.specs.Held.{state}
+use Rattle.tables.proofs.TransactionLemmas.{keeps_then, on_ok}
+use Rattle.tables_read.specs.All.{tables_with}
+use Rattle.old_book.specs.Placed.{each, with_upload_at, with_want_of}
+use Rattle.old_book.proofs.WriteLemmas.{survives_both, writes_then}
+use Rattle.old_book.proofs.rows.write_uploaded.Goals as goal
+
+pub returns-clause-ok : goal.returns-clause-ok
+returns-clause-ok g c clean inside =
+    let t = tables_with c.args.all.now in
+    let s0 = state g.S.Store c.args.tx.now.conn.now in
+    let s1 = state g.S.Store c.write_uploads.new.tx.conn.now in
+    let s2 = state g.S.Store c.write_wants.new.tx.conn.now in
+    let clean_s1 : HasCleanDisk s1 = omega (arith, c.write_wants.ensures.survives.clean, clean) in
+    let step_s1 = rw c.deref.ensures.value at (c.in_ok-write_uploads.ensures.ok clean_s1 inside) in
+    on_ok c.write_wants.result (rw c.deref-2.ensures.value at (c.write_wants.ensures.ok clean step_s1.mode)) (λ done. writes_then s0 s1 s2 (λ now. each with_upload_at t.uploads now) (each with_want_of t.wants) (step_s1) done)
+
+pub returns-clause-err : goal.returns-clause-err
+returns-clause-err g c clean inside =
+    let s0 = state g.S.Store c.args.tx.now.conn.now in
+    let s1 = state g.S.Store c.write_uploads.new.tx.conn.now in
+    let s2 = state g.S.Store c.write_wants.new.tx.conn.now in
+    let clean_s1 : HasCleanDisk s1 = omega (arith, c.write_wants.ensures.survives.clean, clean) in
+    let step_s1 = rw c.deref.ensures.value at (c.in_ok-write_uploads.ensures.ok clean_s1 inside) in
+    on_err_weaker c.write_wants.result (λ kept. keeps_then s0 s1 s2 (step_s1.kept) kept) (c.write_wants.ensures.err clean step_s1.mode)
+
+pub returns-clause-survives : goal.returns-clause-survives
+returns-clause-survives g c =
+    let s0 = state g.S.Store c.args.tx.now.conn.now in
+    let s1 = state g.S.Store c.write_uploads.new.tx.conn.now in
+    let s2 = state g.S.Store c.write_wants.new.tx.conn.now in
+    survives_both s0 s1 s2 (c.write_uploads.ensures.survives) c.write_wants.ensures.survives

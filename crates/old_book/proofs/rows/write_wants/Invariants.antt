@@ -1,0 +1,13 @@
+use Rattle.std.proofs.Common.{◌≡◌, IsTrue, take}
+use Rattle.sqlite.specs.Held.{state}
+use Rattle.sqlite.specs.State.{HasCleanDisk, Survives}
+use Rattle.old_book.specs.Placed.{Writes, each, with_want_of}
+use Rattle.old_book.proofs.rows.write_wants.Given as goal
+
+-- the rows so far are added
+abbrev pub invariant-loop-row : goal.invariant-loop-row
+invariant-loop-row g l = record {
+  reference : l.tx.conn.ghost_name ≡ l.fn.tx.conn.ghost_name;
+  survives : Survives (state g.S.Store l.fn.tx.conn.now) (state g.S.Store l.tx.conn.now) (λ _. ⊥);
+  written : HasCleanDisk (state g.S.Store l.tx.conn.now) → IsTrue (state g.S.Store l.fn.tx.conn.now).in_transaction → Writes (state g.S.Store l.fn.tx.conn.now) (state g.S.Store l.tx.conn.now) (each with_want_of (take l.row-index l.all));
+}
