@@ -31,9 +31,8 @@ class Texts(unittest.TestCase):
         held = collections.defaultdict(list)
         for path in sorted(pathlib.Path(ROOT, "crates").glob("*/data/*.texts")):
             held[path.name].append(path)
-        shared = [paths for paths in held.values() if len(paths) > 1]
-        self.assertTrue(shared)
-        for one, *others in shared:
+        self.assertTrue(held)
+        for one, *others in held.values():
             for other in others:
                 self.assertEqual(one.read_bytes(), other.read_bytes(), f"{one.relative_to(ROOT)} and {other.relative_to(ROOT)}")
 

@@ -1,13 +1,16 @@
-//! Archives as rows: stories over both keepers, and calls and migrations of which a growth may be refused from outside.
+//! Archives as rows: stories over both keepers, and calls and migrations of which a growth may be refused from outside; and archives in
+//! files in memory: whose disks stop, fail or are full, databases that are no archive, and archives of older layouts.
 //!
 //! A line is printed for each row that differs, and one for each file. The exit status is 0 if each file has rows, all rows can be
 //! read, and none differs; otherwise it is 1.
 #![tactic(auto)]
 
+mod disks;
 mod growths;
 mod keepers;
 mod moves;
 
+use crate::disks::Case;
 use crate::growths::Marked;
 use crate::keepers::Lists;
 use crate::moves::Moves;
@@ -35,18 +38,22 @@ fn call<L: Answers<R>, T: Answers<R>, R: Files + Env + Print + AllocGlobal + Clo
     Ok(over_lists && over_tables && moved)
 }
 
-/// Does the stories over lists and over tables, and makes the calls.
-fn tell<L: Answers<R>, T: Answers<R>, R: Files + Env + Print + AllocGlobal + Clone + Drop>(
-    rt: &R,
-) -> io::Result<bool> {
+/// Does the stories over lists and over tables, the calls, and the rows in files.
+fn tell<
+    L: Answers<R>,
+    T: Answers<R>,
+    F: Answers<R>,
+    R: Files + Env + Print + AllocGlobal + Clone + Drop,
+>(rt: &R) -> io::Result<bool> {
     let over_lists = report_files::<L, R>(rt, "over lists: ", ".rows")?;
     let over_tables = report_files::<T, R>(rt, "over tables: ", ".rows")?;
     let called = call::<L, T, R>(rt)?;
-    Ok(over_lists && over_tables && called)
+    let in_files = report_files::<F, R>(rt, "in files: ", ".disks")?;
+    Ok(over_lists && over_tables && called && in_files)
 }
 
 fn main(rt: HostRuntime) -> ExitCode {
-    match tell::<OverLists, OverTables, HostRuntime>(&rt) {
+    match tell::<OverLists, OverTables, Case, HostRuntime>(&rt) {
         Ok(true) => ExitCode::from(0),
         Ok(false) => ExitCode::from(1),
         Err(_) => ExitCode::from(3),
