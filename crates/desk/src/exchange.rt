@@ -24,6 +24,7 @@ use crate::routes::Desk;
 use http::StatusCode;
 use keep::Keeper;
 use queue::{Archive, Arrived, Fault, Promotion, ReaderFailed, Report};
+use statuses::delivery_status;
 use std::alloc::Global;
 use std::error::Error;
 use std::fmt;
@@ -214,8 +215,8 @@ fn arrived_reply(arrived: Arrived) -> Reply
     ensures { (is_pool : Bool) → message_of result ≡ done_message is_pool (Stored (is_new arrived)) }
 {
     match arrived {
-        Arrived::New => Reply::new(StatusCode::CREATED, Body::Text("new")),
-        Arrived::Again => Reply::new(StatusCode::OK, Body::Text("again")),
+        Arrived::New => Reply::new(delivery_status(true), Body::Text("new")),
+        Arrived::Again => Reply::new(delivery_status(false), Body::Text("again")),
     }
 }
 
