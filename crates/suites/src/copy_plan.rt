@@ -13,6 +13,7 @@ use crate::item::Item;
 use crate::key::ShelfKey;
 use crate::plan::Plan;
 use crate::shelves::Shelves;
+use decisions::is_taken;
 use rules::{Config, Suite};
 use std::alloc::{AllocError, Global};
 
@@ -25,9 +26,7 @@ fn is_copied(from: usize, source: &str, target: &Suite, key: &ShelfKey, item: &I
     if key.suite != from || item.source.as_str() != source {
         return false;
     }
-    let keeps_component = target.keeps_component(item.component.as_str());
-    let keeps_architecture = target.keeps_architecture(item.architecture.as_str());
-    keeps_component && keeps_architecture
+    is_taken(target, item.component.as_str(), item.architecture.as_str())
 }
 
 /// Adds a copy of an item, if it passes.

@@ -9,6 +9,7 @@ ghost use Rattle.suites.specs.PoolChange.{ListsExactly, referred, gained, lost, 
 use crate::item::PoolFile;
 use crate::plan::Reference;
 use crate::shelves::{SharedFile, Shelves};
+use decisions::is_left;
 use para::Text;
 use std::alloc::{AllocError, Global};
 use std::collections::BTreeMap;
@@ -113,7 +114,7 @@ fn is_unused(
 {
     match put.get(path) {
         Some(_) => false,
-        None => shelves.references(path) <= dropped,
+        None => is_left(shelves.references(path), dropped),
     }
 }
 

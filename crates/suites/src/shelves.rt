@@ -25,6 +25,7 @@ ghost use Rattle.suites.specs.declared.key.ShelfKey.{ShelfKey};
 use crate::item::{Item, PoolFile};
 use crate::key::ShelfKey;
 use crate::plan::{Plan, Reference};
+use decisions::is_at_least;
 use std::alloc::{AllocError, Global};
 use std::collections::BTreeMap;
 use std::marker::Model;
@@ -408,7 +409,7 @@ impl Shelves {
         ensures { result ≡ is_covered version_of self.now (key.now, item.now) }
     {
         match self.get(key) {
-            Some(shown) => !shown.version.order(&item.version).is_lt(),
+            Some(shown) => is_at_least(&shown.version, &item.version),
             None => false,
         }
     }
