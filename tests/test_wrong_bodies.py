@@ -51,11 +51,12 @@ class WrongBodies(unittest.TestCase):
         made = self.changed("file: src/lib.rt\nold: one() + 1\nnew: 9\nold: 9\nnew: 7\n")
         self.assertEqual(made, {"src/lib.rt": SOURCE.replace("one() + 1", "7")})
 
-    def test_the_sum_of_a_crate_is_of_its_lines(self):
+    def test_the_sum_of_a_crate_is_of_its_code(self):
         low = str(self.root / "crates/low")
         first = tool.sum_of_crate(low)
-        self.write("crates/low/src/lib.rt", SOURCE.replace("    1", "  1"))
-        self.assertEqual(tool.sum_of_crate(low), first)
+        for text in (SOURCE.replace("    1", "  1"), SOURCE.replace("fn two", "/// One more.\n    // A comment.\n\nfn two")):
+            self.write("crates/low/src/lib.rt", text)
+            self.assertEqual(tool.sum_of_crate(low), first)
         self.write("crates/low/src/lib.rt", SOURCE.replace("1", "2"))
         self.assertNotEqual(tool.sum_of_crate(low), first)
 
