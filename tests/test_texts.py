@@ -1,8 +1,8 @@
-"""Tests of the texts that files of rows share. A program is run beside its own data alone, so what the rows of several programs share stands
-in each of them: files of one name have to be the same.
+"""Tests of the files crates/*/data/*.texts. A program of rows reads the files in its own data alone, so a file that several programs need is in
+the data of each: those of one name have to be the same. Neither tests/lines/samples.texts nor a text that stands in a file of rows is read.
 
-The index texts among them belong to the layout of the tables: an archive keeps its index texts, and an opening compares them byte for byte with
-what the program writes. The file tests/archives/N.texts has a line for each of them, with the name and the SHA-256 that it has in layout N."""
+The index texts in these files belong to the layout of the tables: an archive keeps its index texts, and an opening compares them byte for
+byte with what the program writes. The file tests/archives/N.texts has a line for each of them, with the name and the SHA-256 that it has in layout N."""
 import collections
 import hashlib
 import pathlib
@@ -17,7 +17,7 @@ INDEX_TEXT = re.compile(r"^text (\S+\.(?:Packages|Sources|Release))\n((?:\|.*\n)
 
 
 def index_texts():
-    """The index texts that rows have, by the file that they stand in and their name."""
+    """The index texts of these files, by the file that they stand in and their name."""
     found = {}
     for path in sorted(pathlib.Path(ROOT, "crates").glob("*/data/*.texts")):
         for name, lines in INDEX_TEXT.findall(path.read_text(encoding="utf-8")):

@@ -1,8 +1,8 @@
 //! The texts that ask a database of an older layout for rows of today's tables.
 //!
 //! A database is not of a layout if the text that asks for the version finds another one, or if a text asks for a table that is not there
-//! or gets rows of other types. Tables, columns and indexes that no query names are passed over. So a later layout, once it is an older
-//! one, costs eleven texts.
+//! or gets rows of other types. Tables, columns and indexes that no query names are passed over. A layout that becomes an older one needs
+//! eleven texts here, with the proof that they are SELECTs. That is not all: `old_book` has to say what its rows and its index texts are.
 
 ghost use Rattle.std.specs.Prelude.{◌≡◌};
 ghost use Rattle.old_rows.specs.Layouts.{AreSelects, first_layout, second_layout};
