@@ -83,7 +83,7 @@ pub fn serve<'a, R: Clock + Files + AllocGlobal, K: Keeper>(
     moment: u64,
 ) -> Result<(), Stop<'a>>
     // Whatever clients send, and whenever they leave, the archive is as `attend` leaves it after some list of at most `count` connections
-    // at the moment. Their readers are of types that give what a client sends and nothing else (`FromOutside`).
+    // at the moment. That their readers give what a client sends and nothing else is said by their types (`FromOutside`), and by no clause.
     ensures served { HasServed K.Keeper count (IsClientsWithin moment moment) archive.old.keeper archive.new.keeper }
 {
     keep_room(rt.alloc());
