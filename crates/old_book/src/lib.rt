@@ -20,6 +20,7 @@ mod settling;
 mod taken;
 mod uploads;
 mod without_days;
+mod written;
 
 pub use book::OldBook;
 pub use rows::write_rows;

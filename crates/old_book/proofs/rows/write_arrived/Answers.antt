@@ -8,51 +8,51 @@ use Rattle.old_book.specs.Placed.{each, with_arrival_at, with_body_at, with_piec
 use Rattle.old_book.proofs.WriteLemmas.{survives_both, writes_then}
 use Rattle.old_book.proofs.rows.write_arrived.Goals as goal
 
-pub returns-in_err-write_pieces-clause-err : goal.returns-in_err-write_pieces-clause-err
-returns-in_err-write_pieces-clause-err g c clean inside =
+pub returns-in_err-write_all-2-clause-err : goal.returns-in_err-write_all-2-clause-err
+returns-in_err-write_all-2-clause-err g c clean inside =
     let s0 = state g.S.Store c.args.tx.now.conn.now in
-    let s1 = state g.S.Store c.write_bodies.new.tx.conn.now in
-    let s2 = state g.S.Store c.write_pieces.new.tx.conn.now in
-    let clean_s1 : HasCleanDisk s1 = omega (arith, c.write_pieces.ensures.survives.clean, clean) in
-    let step_s1 = rw c.deref.ensures.value at (c.in_ok-write_bodies.ensures.ok clean_s1 inside) in
-    on_err _ (keeps_then s0 s1 s2 (step_s1.kept) (c.in_err-write_pieces.ensures.err clean step_s1.mode))
+    let s1 = state g.S.Store c.write_all.new.tx.conn.now in
+    let s2 = state g.S.Store c.write_all-2.new.tx.conn.now in
+    let clean_s1 : HasCleanDisk s1 = omega (arith, c.write_all-2.ensures.survives.clean, clean) in
+    let step_s1 = rw c.deref.ensures.value at (c.in_ok-write_all.ensures.ok clean_s1 inside) in
+    on_err _ (keeps_then s0 s1 s2 (step_s1.kept) (c.in_err-write_all-2.ensures.err clean step_s1.mode))
 
-pub returns-in_err-write_pieces-clause-survives : goal.returns-in_err-write_pieces-clause-survives
-returns-in_err-write_pieces-clause-survives g c =
+pub returns-in_err-write_all-2-clause-survives : goal.returns-in_err-write_all-2-clause-survives
+returns-in_err-write_all-2-clause-survives g c =
     let s0 = state g.S.Store c.args.tx.now.conn.now in
-    let s1 = state g.S.Store c.write_bodies.new.tx.conn.now in
-    let s2 = state g.S.Store c.write_pieces.new.tx.conn.now in
-    survives_both s0 s1 s2 (c.write_bodies.ensures.survives) c.write_pieces.ensures.survives
+    let s1 = state g.S.Store c.write_all.new.tx.conn.now in
+    let s2 = state g.S.Store c.write_all-2.new.tx.conn.now in
+    survives_both s0 s1 s2 (c.write_all.ensures.survives) c.write_all-2.ensures.survives
 
 pub returns-clause-ok : goal.returns-clause-ok
 returns-clause-ok g c clean inside =
     let t = tables_with c.args.all.now in
     let s0 = state g.S.Store c.args.tx.now.conn.now in
-    let s1 = state g.S.Store c.write_bodies.new.tx.conn.now in
-    let s2 = state g.S.Store c.write_pieces.new.tx.conn.now in
-    let s3 = state g.S.Store c.write_arrivals.new.tx.conn.now in
-    let clean_s2 : HasCleanDisk s2 = omega (arith, c.write_arrivals.ensures.survives.clean, clean) in
-    let clean_s1 : HasCleanDisk s1 = omega (arith, c.write_pieces.ensures.survives.clean, clean_s2) in
-    let step_s1 = rw c.deref.ensures.value at (c.in_ok-write_bodies.ensures.ok clean_s1 inside) in
-    let step_s2 = rw c.deref-2.ensures.value at (c.in_ok-write_pieces.ensures.ok clean_s2 step_s1.mode) in
-    on_ok c.write_arrivals.result (rw c.deref-3.ensures.value at (c.write_arrivals.ensures.ok clean step_s2.mode)) (λ done. writes_then s0 s2 s3 (λ now. each with_piece_of t.pieces (each with_body_at t.bodies now)) (each (with_arrival_at c.args.moment) t.arrivals) (writes_then s0 s1 s2 (each with_body_at t.bodies) (each with_piece_of t.pieces) step_s1 step_s2) done)
+    let s1 = state g.S.Store c.write_all.new.tx.conn.now in
+    let s2 = state g.S.Store c.write_all-2.new.tx.conn.now in
+    let s3 = state g.S.Store c.write_all-3.new.tx.conn.now in
+    let clean_s2 : HasCleanDisk s2 = omega (arith, c.write_all-3.ensures.survives.clean, clean) in
+    let clean_s1 : HasCleanDisk s1 = omega (arith, c.write_all-2.ensures.survives.clean, clean_s2) in
+    let step_s1 = rw c.deref.ensures.value at (c.in_ok-write_all.ensures.ok clean_s1 inside) in
+    let step_s2 = rw c.deref-2.ensures.value at (c.in_ok-write_all-2.ensures.ok clean_s2 step_s1.mode) in
+    on_ok c.write_all-3.result (rw c.deref-3.ensures.value at (c.write_all-3.ensures.ok clean step_s2.mode)) (λ done. writes_then s0 s2 s3 (λ now. each with_piece_of t.pieces (each with_body_at t.bodies now)) (each (with_arrival_at c.args.moment) t.arrivals) (writes_then s0 s1 s2 (each with_body_at t.bodies) (each with_piece_of t.pieces) step_s1 step_s2) done)
 
 pub returns-clause-err : goal.returns-clause-err
 returns-clause-err g c clean inside =
     let s0 = state g.S.Store c.args.tx.now.conn.now in
-    let s1 = state g.S.Store c.write_bodies.new.tx.conn.now in
-    let s2 = state g.S.Store c.write_pieces.new.tx.conn.now in
-    let s3 = state g.S.Store c.write_arrivals.new.tx.conn.now in
-    let clean_s2 : HasCleanDisk s2 = omega (arith, c.write_arrivals.ensures.survives.clean, clean) in
-    let clean_s1 : HasCleanDisk s1 = omega (arith, c.write_pieces.ensures.survives.clean, clean_s2) in
-    let step_s1 = rw c.deref.ensures.value at (c.in_ok-write_bodies.ensures.ok clean_s1 inside) in
-    let step_s2 = rw c.deref-2.ensures.value at (c.in_ok-write_pieces.ensures.ok clean_s2 step_s1.mode) in
-    on_err_weaker c.write_arrivals.result (λ kept. keeps_then s0 s2 s3 (keeps_then s0 s1 s2 step_s1.kept step_s2.kept) kept) (c.write_arrivals.ensures.err clean step_s2.mode)
+    let s1 = state g.S.Store c.write_all.new.tx.conn.now in
+    let s2 = state g.S.Store c.write_all-2.new.tx.conn.now in
+    let s3 = state g.S.Store c.write_all-3.new.tx.conn.now in
+    let clean_s2 : HasCleanDisk s2 = omega (arith, c.write_all-3.ensures.survives.clean, clean) in
+    let clean_s1 : HasCleanDisk s1 = omega (arith, c.write_all-2.ensures.survives.clean, clean_s2) in
+    let step_s1 = rw c.deref.ensures.value at (c.in_ok-write_all.ensures.ok clean_s1 inside) in
+    let step_s2 = rw c.deref-2.ensures.value at (c.in_ok-write_all-2.ensures.ok clean_s2 step_s1.mode) in
+    on_err_weaker c.write_all-3.result (λ kept. keeps_then s0 s2 s3 (keeps_then s0 s1 s2 step_s1.kept step_s2.kept) kept) (c.write_all-3.ensures.err clean step_s2.mode)
 
 pub returns-clause-survives : goal.returns-clause-survives
 returns-clause-survives g c =
     let s0 = state g.S.Store c.args.tx.now.conn.now in
-    let s1 = state g.S.Store c.write_bodies.new.tx.conn.now in
-    let s2 = state g.S.Store c.write_pieces.new.tx.conn.now in
-    let s3 = state g.S.Store c.write_arrivals.new.tx.conn.now in
-    survives_both s0 s2 s3 (survives_both s0 s1 s2 (c.write_bodies.ensures.survives) c.write_pieces.ensures.survives) c.write_arrivals.ensures.survives
+    let s1 = state g.S.Store c.write_all.new.tx.conn.now in
+    let s2 = state g.S.Store c.write_all-2.new.tx.conn.now in
+    let s3 = state g.S.Store c.write_all-3.new.tx.conn.now in
+    survives_both s0 s2 s3 (survives_both s0 s1 s2 (c.write_all.ensures.survives) c.write_all-2.ensures.survives) c.write_all-3.ensures.survives

@@ -12,24 +12,24 @@ pub returns-clause-ok : goal.returns-clause-ok
 returns-clause-ok g c clean inside =
     let t = tables_with c.args.all.now in
     let s0 = state g.S.Store c.args.tx.now.conn.now in
-    let s1 = state g.S.Store c.write_uploads.new.tx.conn.now in
-    let s2 = state g.S.Store c.write_wants.new.tx.conn.now in
-    let clean_s1 : HasCleanDisk s1 = omega (arith, c.write_wants.ensures.survives.clean, clean) in
-    let step_s1 = rw c.deref.ensures.value at (c.in_ok-write_uploads.ensures.ok clean_s1 inside) in
-    on_ok c.write_wants.result (rw c.deref-2.ensures.value at (c.write_wants.ensures.ok clean step_s1.mode)) (λ done. writes_then s0 s1 s2 (λ now. each with_upload_at t.uploads now) (each with_want_of t.wants) (step_s1) done)
+    let s1 = state g.S.Store c.write_all.new.tx.conn.now in
+    let s2 = state g.S.Store c.write_all-2.new.tx.conn.now in
+    let clean_s1 : HasCleanDisk s1 = omega (arith, c.write_all-2.ensures.survives.clean, clean) in
+    let step_s1 = rw c.deref.ensures.value at (c.in_ok-write_all.ensures.ok clean_s1 inside) in
+    on_ok c.write_all-2.result (rw c.deref-2.ensures.value at (c.write_all-2.ensures.ok clean step_s1.mode)) (λ done. writes_then s0 s1 s2 (λ now. each with_upload_at t.uploads now) (each with_want_of t.wants) (step_s1) done)
 
 pub returns-clause-err : goal.returns-clause-err
 returns-clause-err g c clean inside =
     let s0 = state g.S.Store c.args.tx.now.conn.now in
-    let s1 = state g.S.Store c.write_uploads.new.tx.conn.now in
-    let s2 = state g.S.Store c.write_wants.new.tx.conn.now in
-    let clean_s1 : HasCleanDisk s1 = omega (arith, c.write_wants.ensures.survives.clean, clean) in
-    let step_s1 = rw c.deref.ensures.value at (c.in_ok-write_uploads.ensures.ok clean_s1 inside) in
-    on_err_weaker c.write_wants.result (λ kept. keeps_then s0 s1 s2 (step_s1.kept) kept) (c.write_wants.ensures.err clean step_s1.mode)
+    let s1 = state g.S.Store c.write_all.new.tx.conn.now in
+    let s2 = state g.S.Store c.write_all-2.new.tx.conn.now in
+    let clean_s1 : HasCleanDisk s1 = omega (arith, c.write_all-2.ensures.survives.clean, clean) in
+    let step_s1 = rw c.deref.ensures.value at (c.in_ok-write_all.ensures.ok clean_s1 inside) in
+    on_err_weaker c.write_all-2.result (λ kept. keeps_then s0 s1 s2 (step_s1.kept) kept) (c.write_all-2.ensures.err clean step_s1.mode)
 
 pub returns-clause-survives : goal.returns-clause-survives
 returns-clause-survives g c =
     let s0 = state g.S.Store c.args.tx.now.conn.now in
-    let s1 = state g.S.Store c.write_uploads.new.tx.conn.now in
-    let s2 = state g.S.Store c.write_wants.new.tx.conn.now in
-    survives_both s0 s1 s2 (c.write_uploads.ensures.survives) c.write_wants.ensures.survives
+    let s1 = state g.S.Store c.write_all.new.tx.conn.now in
+    let s2 = state g.S.Store c.write_all-2.new.tx.conn.now in
+    survives_both s0 s1 s2 (c.write_all.ensures.survives) c.write_all-2.ensures.survives
