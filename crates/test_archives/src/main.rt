@@ -2,7 +2,7 @@
 //! files in memory: whose disks stop, fail or are full, databases that are no archive, and archives of older layouts.
 //!
 //! A line is printed for each row that differs, and one for each file. The exit status is 0 if each file has rows, all rows can be
-//! read, and none differs; otherwise it is 1.
+//! read, and none differs; 3 if the output fails; otherwise it is 1.
 #![tactic(auto)]
 
 mod disks;
