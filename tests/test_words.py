@@ -1,11 +1,8 @@
 """Tests of checks/words, on a small repository: which words of which comments it counts, and when there are too many."""
-import pathlib
 import shutil
 import subprocess
-import tempfile
-import unittest
 
-from tests.tools import ROOT, tool
+from tests.tools import ROOT, InRepository, tool
 from tests.wants import main
 
 words = tool("checks/words")
@@ -15,18 +12,7 @@ DEFINITIONS = "crates/low/specs/Low.antt"
 TOOL = "tests/low.py"
 
 
-class Words(unittest.TestCase):
-    def setUp(self):
-        room = tempfile.TemporaryDirectory()
-        self.addCleanup(room.cleanup)
-        self.root = pathlib.Path(room.name)
-
-    def write(self, path, text):
-        """Writes a file of the repository."""
-        file = self.root / path
-        file.parent.mkdir(parents=True, exist_ok=True)
-        file.write_text(text, encoding="utf-8")
-
+class Words(InRepository):
     def counted(self, path, text):
         """What is counted in a repository that has this file alone: the kind of each place, and the number of its line."""
         self.write(path, text)

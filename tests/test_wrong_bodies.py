@@ -1,7 +1,4 @@
 """Tests of what try_wrong_bodies reads, on a small repository."""
-import pathlib
-import tempfile
-import unittest
 
 from tests import tools
 from tests.wants import main
@@ -11,17 +8,11 @@ tool = tools.tool("checks/try_wrong_bodies")
 SOURCE = "fn one() -> u8 {\n    1\n}\n\nfn two() -> u8 {\n    one() + 1\n}\n"
 
 
-class WrongBodies(unittest.TestCase):
+class WrongBodies(tools.InRepository):
     def setUp(self):
-        room = tempfile.TemporaryDirectory()
-        self.addCleanup(room.cleanup)
-        self.root = pathlib.Path(room.name)
+        super().setUp()
         self.write("crates/low/src/lib.rt", SOURCE)
         self.write("checks/wrong_bodies/low/is_three.edit", "file: src/lib.rt\nold: one() + 1\nnew: one() + 2\n")
-
-    def write(self, path, text):
-        (self.root / path).parent.mkdir(parents=True, exist_ok=True)
-        (self.root / path).write_text(text)
 
     def changed(self, text):
         return tool.changed(text, str(self.root / "crates/low"))

@@ -28,7 +28,5 @@ pub fn is_left(references: u64, dropped: u64) -> bool
 pub fn is_taken(target: &Suite, component: &str, architecture: &str) -> bool
     ensures { result ≡ keeps target.now component.now architecture.now }
 {
-    let keeps_component = target.keeps_component(component);
-    let keeps_architecture = target.keeps_architecture(architecture);
-    keeps_component && keeps_architecture
+    target.keeps(component, architecture)
 }
