@@ -134,10 +134,10 @@ def digests(file):
 
 
 class Server:
-    """A program that answers HTTP on loopback while the `with` lasts. Its words may hold {port}."""
+    """A program that answers HTTP on loopback while the `with` lasts. Its words may hold {port}. The port is one that was free, if none is named."""
 
-    def __init__(self, words):
-        self.port = free_port()
+    def __init__(self, words, port=None):
+        self.port = port or free_port()
         words = [word.replace("{port}", str(self.port)) for word in words]
         nothing = subprocess.DEVNULL
         self.process = subprocess.Popen(words, stdin=nothing, stdout=nothing, stderr=nothing)

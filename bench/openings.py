@@ -1,18 +1,20 @@
 """What an opening takes, by what the archive holds, beside what the library `sqlite` takes of it.
 
     python3 -m bench.openings ARCHIVE FOLDER [--bodies 100] [--judged 10000] [--verdicts 40000] [--waiting 4000] [--large] [--rounds 1]
+    python3 -m bench.openings ARCHIVE FOLDER --bodies 125,500,2500 --judged 0 --verdicts 0 --waiting 0
 
 ARCHIVE is the program, FOLDER a new folder to work in. Each archive is made by `init`. Its rows are then written into the file by
 Python's sqlite3, since to hand everything in takes too long. The opening judges that they are those of an archive. They are those of
 
-    so many bodies of 4,000,000 bytes (--bodies), each delivered and in no upload
+    so many bodies of 4,000,000 bytes (--bodies), each delivered and in no upload; of several numbers, as above for 0.5, 2 and 10 GB, each is an archive
     so many uploads (--judged) that have a verdict, each shown
     some years: so many uploads that have a verdict (--verdicts), four versions of each package, of which the last is shown. A
         cleaning took the files of the first sixth away, so that for 40,000 verdicts 100,000 arrivals are left
     so many uploads that wait for their sidecar (--waiting)
     with --large some years, and 500 bodies of 4,000,000 bytes beside
 
-A number that is 0 leaves an archive out. The table has three columns, and of several rounds the least is told:
+A number that is 0 leaves an archive out. An opening holds all bodies in memory: an archive that has more of them than fit is left out, too, and
+standard error says so. The file of an archive is removed once it was measured. The table has three columns, and of several rounds the least is told:
 
     archive: `verdicts`, which opens the archive and lists what was judged
     sqlite alone: the same of the same file with a table more. The library, by which the program reads database files, opens it
@@ -21,12 +23,15 @@ A number that is 0 leaves an archive out. The table has three columns, and of se
 """
 import contextlib
 import functools
+import glob
 import hashlib
 import os
 import pathlib
 import sqlite3
+import sys
 
 from bench import measure, ways
+from tests.run import free_memory
 from uploads import uploads
 
 # The most bytes of a piece of a body, and the bytes of a large body.
@@ -34,6 +39,9 @@ PIECE_SIZE, LARGE_SIZE = 65_536, 4_000_000
 
 # The number of large bodies with --large.
 LARGE_COUNT = 500
+
+# How much memory is to be free for an opening: this many times the bytes of the large bodies, which it holds once, and some more.
+ROOM = 1.25
 
 # The number of versions of a package that come in some years, and the number of uploads of which one has its files
 # cleaned away.
@@ -200,6 +208,14 @@ def least(line, one):
     return functools.reduce(measure.Taken.least, [one() for _ in range(line.rounds)])
 
 
+def has_room(count):
+    """Whether an opening of an archive with this number of large bodies fits into the memory that is free. If not, standard error is told."""
+    needed, free = ROOM * count * LARGE_SIZE, free_memory()
+    if needed > free:
+        print(f"{count:,} bodies are left out: an opening takes {needed / 1e9:.1f} GB of memory, and {free / 1e9:.1f} GB are free", file=sys.stderr)
+    return needed <= free
+
+
 def row(line, file):
     """What an archive holds, and the values of each column for it."""
     what, verdicts = told(file)
@@ -209,12 +225,15 @@ def row(line, file):
     alone = least(line, lambda: library(line, file))
     with opened(file) as held:
         held.execute("DROP TABLE other")
-    return what, [ours, alone, least(line, lambda: measure.digests(file))]
+    digests = least(line, lambda: measure.digests(file))
+    for path in glob.glob(f"{file}*"):
+        os.remove(path)
+    return what, [ours, alone, digests]
 
 
 def main():
     words = measure.words(__doc__)
-    words.add_argument("--bodies", type=int, default=100)
+    words.add_argument("--bodies", type=measure.numbers, default=[100])
     words.add_argument("--judged", type=int, default=10_000)
     words.add_argument("--verdicts", type=int, default=40_000)
     words.add_argument("--waiting", type=int, default=4_000)
@@ -223,9 +242,11 @@ def main():
     line = words.parse_args()
     os.mkdir(line.folder)
     pathlib.Path(line.folder, "box.conf").write_text(uploads.CONFIGURATION)
-    parts = {large_bodies: line.bodies, judged: line.judged, years: line.verdicts, waiting: line.waiting}
-    parts[large] = line.verdicts * line.large
-    rows = [row(line, made(line, fill, count)) for fill, count in parts.items() if count]
+    parts = [(large_bodies, it) for it in line.bodies if has_room(it)]
+    parts += [(judged, line.judged), (years, line.verdicts), (waiting, line.waiting)]
+    if line.large and has_room(LARGE_COUNT):
+        parts.append((large, line.verdicts))
+    rows = [row(line, made(line, fill, count)) for fill, count in parts if count]
     print(measure.heading())
     print(measure.table_of(["archive", "sqlite alone", "three digests"], rows))
 

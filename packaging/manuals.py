@@ -19,10 +19,10 @@ DOCS = "/usr/share/doc/boqitsel"
 COMMANDS = [
     "A session", "What a configuration says", "What a suite shows, and lines for scripts", "Why an upload was refused, or waits", "Lists of commands",
     "What an upload is", "Uploading", "Installing from it", "A tree for any web server", "Copying a whole suite", "Testing and stable",
-    "Taking a package out", "How long files count", "Moments",
+    "Taking a package out", "How long files count", "How large a file may be", "Moments",
 ]
 SERVICE = ["Serving", "A tree beside the server"]
-CONFIGURATION = ["What a configuration says", "Until when a Release is valid", "How long files count", "Testing and stable"]
+CONFIGURATION = ["What a configuration says", "Until when a Release is valid", "How long files count", "How large a file may be", "Testing and stable"]
 # What is said of a fault's letter, in archive.conf(5) and in archive(1).
 FAULTS_OF_CONFIGURATIONS = "Configurations: F"
 
@@ -181,11 +181,11 @@ def archive():
     """archive(1)."""
     rows = commands()
     about = page("README.md").partition("\n\n")[2].partition("\n\n## ")[0]
-    limits = section("README.md", "What it does not do")
+    lacks, limits = (section("README.md", it) for it in ("What it does not do", "Limits"))
     rest = section("docs/USING.md", "Commands").partition("\n\n")[2]
     made = head("archive", "1", "archive, boqitsel \\- a Debian package archive with an incoming queue")
     made += titled("Synopsis", "".join(f".B {escaped(words)}\n.br\n" for words, _ in rows))
-    made += titled("Description", inline(about) + "\n.PP\n" + NAMES + ".SS What it does not do\n" + body(limits))
+    made += titled("Description", inline(about) + "\n.PP\n" + NAMES + ".SS What it does not do\n" + body(lacks) + ".SS Limits\n" + body(limits))
     made += titled("Commands", "".join(f".TP\n.B {escaped(words)}\n{inline(comment)}\n" for words, comment in rows) + ".PP\n" + body(rest))
     made += "".join(titled(it, body(section("docs/USING.md", it))) for it in COMMANDS)
     made += "".join(titled(it, body(section("docs/OPERATING.md", it))) for it in SERVICE)

@@ -2,9 +2,9 @@
 
 First come those that take seconds: whether the pages and the wrong bodies fit the sources, the words of comments, and the tests of the
 tools. Then comes the gate, rt ci, and after it the tests of the program that it built. Each is run, even if one before it failed. At the
-end a line says once more how long the gate took. Each test that was skipped has a line, below what there is not on this machine, and then
-comes a line that counts them. The last line is 'N passed, M failed': what the gate counts, and one more for each of the others. The status
-is 0 if none failed."""
+end a line says once more how long the gate took, and lines say once more what failed, so that a log that lost its middle has them. Each test
+that was skipped has a line, below what there is not on this machine, and then comes a line that counts them. The last line is 'N passed,
+M failed': what the gate counts, and one more for each of the others. The status is 0 if none failed."""
 import os
 import re
 import shutil
@@ -23,6 +23,7 @@ BEFORE = [
     "tests.test_format",
     "tests.test_words",
     "tests.test_using",
+    "tests.test_using_keys",
     "tests.test_wrong_bodies",
     "tests.test_ports",
     "tests.test_run",
@@ -51,6 +52,7 @@ BEHIND = [
     "tests.test_others",
     "tests.test_served",
     "tests.test_pieces",
+    "tests.test_large",
     "tests.test_command_lines",
     "tests.test_layouts",
     "tests.test_batch",
@@ -82,6 +84,8 @@ BEHIND = [
     "tests.refuse_growths --part",
 ]
 COUNTS = re.compile(r"(\d+) passed, (\d+) failed$")
+# The lines of the gate that say what failed in it: each by itself, and at its end all names.
+OF_FAULTS = re.compile(r"rt: (FAILED: .*|.* NOT PROVED|.*: NOT (REFUSED|TRIED).*|.*: the program (ended|was stopped|had not ended) .*|.*: what the program wrote, .*|.*: its tests FAILED)$")
 # The first kit that proves crates by name, and keeps that.
 KEEPING_KIT = 13, "f"
 
@@ -142,18 +146,20 @@ def gate():
     if not shutil.which(GATE[0]):
         print("There is no rt on the path, so nothing is proved.", flush=True)
         return 0, 1
-    last, began = "", time.monotonic()
+    last, faults, began = "", [], time.monotonic()
     if can_begin_before():
         prove_first()
     with subprocess.Popen(GATE, cwd=ROOT, env=environment_of_gate(), stdout=subprocess.PIPE, text=True, errors="replace") as run:
         for line in run.stdout:
             print(line, end="", flush=True)
             last = line.strip() or last
+            if OF_FAULTS.match(line.rstrip()):
+                faults.append(f"Of the gate: {line.rstrip()[:600]}")
     took = f"The gate took {(time.monotonic() - began) / 60:.1f} minutes."
     print(took, flush=True)
     found = COUNTS.match(last)
     passed, failed = (int(it) for it in found.groups()) if found else (0, 1)
-    return passed, failed or int(run.returncode != 0), took
+    return passed, failed or int(run.returncode != 0), took, *faults
 
 
 def told_of_skipped(lines):
@@ -167,8 +173,7 @@ def told_of_skipped(lines):
 
 
 def run_all(*parts):
-    """Runs parts, each of which answers how much passed and failed, and lines that are printed once more at the end, so that a log that lost its middle
-    has them. Prints the totals of the parts as the last lines. Answers the status."""
+    """Runs parts, each of which answers how much passed and failed, and lines that are printed once more at the end. Prints the totals of the parts as the last lines. Answers the status."""
     passed, failed, again = 0, 0, []
     with tempfile.NamedTemporaryFile("r", encoding="utf-8") as skipped:
         os.environ["SKIPPED"] = skipped.name
@@ -185,8 +190,8 @@ def each_of(lines):
     """A part that runs each of these tools."""
 
     def run():
-        results = [is_passed(it) for it in lines]
-        return sum(results), len(results) - sum(results)
+        failed = [it for it in lines if not is_passed(it)]
+        return len(lines) - len(failed), len(failed), *(f"Failed: {it}" for it in failed)
 
     return run
 

@@ -11,6 +11,10 @@ LINES = [
     "tests.test_writes",
     "tests.test_hostile 10000",
     "tests.test_export_planted 600",
+    "tests.test_large 48 64",
+    "tests.test_large 200",
+    "tests.test_large 1024",
+    "tests.test_large_apt",
 ]
 
 

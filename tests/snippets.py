@@ -43,7 +43,16 @@ PIECES = {
     "tree of another user": "chown -R archive: box.db* www",
     "export.conf": "--export www --signed",
     "sign-tree": "for state in www/dists/",
-    "sign-tree.conf": "ExecStart=/srv/box/sign-tree\n",
+    "signed tree as a service": "enable --now boqitsel-sign.path",
+    "sign.service": "Description=Signs what waits in the tree of box\n",
+    "sign.path": "Description=Has the tree of box signed when a state is made\n",
+    "sign.timer": "Description=Has the tree of box signed each minute\n",
+    "key of a suite": "<stable@example.org>",
+    "signing by a key of a suite": "suite=${state#",
+    "key that ends": "--quick-set-expire",
+    "next key": "Archive box <next@example.org>",
+    "sign anew": "state=$(readlink",
+    "units of another archive": "/etc/systemd/system/tools${name#boqitsel}",
     "tree by nginx": "root /srv/box/www;",
     "tree by rsync": "rsync -a",
     "tree by rclone": "rclone sync",
@@ -85,7 +94,7 @@ PIECES = {
     "moment": "last=$(cat moment",
     "nginx": "proxy_cache_path",
     "login": "htpasswd -c",
-    "key": "--quick-generate-key",
+    "key": "'Archive box <archive@example.org>' default sign",
     "signed folder": "mkdir -p signed/dists/box\n",
     "sign": "cd signed/dists\n",
     "sign.conf": "ExecStart=/srv/box/sign\n",
@@ -212,9 +221,9 @@ class Room:
         path.chmod(mode)
         return str(path)
 
-    def run(self, text, cwd=None):
-        """Runs a text by a shell that ends at the first failure. Answers the status, and what was printed on both outputs."""
-        words = {"cwd": cwd or self.work, "env": self.variables, "stdin": subprocess.DEVNULL, "timeout": 120}
+    def run(self, text, cwd=None, within=120):
+        """Runs a text by a shell that ends at the first failure, within so many seconds. Answers the status, and what was printed on both outputs."""
+        words = {"cwd": cwd or self.work, "env": self.variables, "stdin": subprocess.DEVNULL, "timeout": within}
         ran = subprocess.run(["sh", "-ec", text], capture_output=True, text=True, errors="backslashreplace", check=False, **words)
         return ran.returncode, ran.stdout, ran.stderr
 

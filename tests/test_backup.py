@@ -753,6 +753,10 @@ class Kills(Case):
         print(f"Of 30 backups of the stand-in {killer.killed} were killed, {killer.held} of them while it was held.")
 
 
+# How many seconds pass between two files of a client, so that the archive does not grow by as much as the machine can take.
+PAUSE = 0.02
+
+
 class Putting:
     """A client that puts one file after the other while the `with` lasts: how many it began to put, and how many were answered."""
 
@@ -782,6 +786,7 @@ class Putting:
                 return
             self.longest = max(self.longest, time.monotonic() - start)
             self.answered += 1
+            time.sleep(PAUSE)
 
 
 def file_of(number):
@@ -790,8 +795,8 @@ def file_of(number):
 
 
 def body_of(number):
-    """Its contents."""
-    return b"%d " % number * (100 + number * 7919 % 20_000)
+    """Its contents: one of eight may have more than one piece."""
+    return b"%d " % number * (100 + number * 7919 % (2_000 if number % 8 else 20_000))
 
 
 @needs_file(PROGRAM)

@@ -208,6 +208,7 @@ Components: main extra
 Description: What is new
 KeepDays: 90
 ValidDays: 7
+MaxFileSize: 200
 Uploaders:
  hello by anybody
  lib* by Ann <ann@example.org>
@@ -243,8 +244,23 @@ suite shut
  uploads nothing
  release valid for good
 files count for 90 days
+files up to 200 MiB
 """
         self.assertEqual(self.checked(text), (0, wanted, ""))
+
+    def test_how_large_a_file_may_be(self):
+        """A line says it if the field is there. What is no number of MiB for it is refused."""
+        text, last = "Codename: box\nArchitectures: amd64\nComponents: main\n", "files count for good\n"
+        self.assertTrue(self.checked(text)[1].endswith(f"\n{last}"))
+        for field, number in (("MaxFileSize: 4", 4), ("MaxFileSize: 5", 5), ("MaxFileSize: 1024", 1024), ("maxfilesize:5", 5)):
+            status, printed, told = self.checked(f"{text}{field}\n")
+            self.assertEqual((status, told, printed.endswith(f"\n{last}files up to {number} MiB\n")), (0, "", True), printed)
+        lab = "\nCodename: lab\nArchitectures: amd64\nComponents: main\n"
+        for more in ("MaxFileSize: 0", "MaxFileSize: 3", "MaxFileSize: 05", "MaxFileSize: 1025", "MaxFileSize: 5 MiB", "MaxFileSize:", "MaxFileSize: 5\n 6", f"{lab}MaxFileSize: 5"):
+            self.assertEqual(self.checked(f"{text}{more}\n"), (1, "", "archive: F3\n"), more)
+        self.assertEqual(self.checked(f"{text}MaxFileSize: 9\n{lab}")[:2], (0, self.checked(f"{text}{lab}")[1] + "files up to 9 MiB\n"))
+        status, printed, told = self.checked(f"{text}MaxFilesSize: 5\n")
+        self.assertEqual((status, told, printed.splitlines()[-2:]), (1, "", ["files count for good", "passed over MaxFilesSize in box, did you mean MaxFileSize"]))
 
     def test_what_is_passed_over(self):
         text = """Codename: box

@@ -26,7 +26,6 @@ from uploads import uploads
 MAKE = f"{ROOT}/packaging/make_deb"
 VERSION = (ROOT / "VERSION").read_text(encoding="ascii").strip()
 DEB = f"boqitsel_{VERSION}_amd64.deb"
-LARGEST = 4_194_304
 LONG = 300
 
 # Installs the package in a system of its own, uses it, and takes it off. $1 is the folder with the package and what goes with it, $2 a port.
@@ -51,15 +50,18 @@ test "$(readlink -f /usr/bin/archive)" = /usr/bin/boqitsel
 test ! -e /etc/systemd/system/multi-user.target.wants/boqitsel.service
 systemctl() { echo "systemctl $*"; }
 . /given/steps
+# The package may have more than 4 MiB.
+sed -i '1i MaxFileSize: 64' box.conf
+runuser -u archive -- archive configure --db box.db --at "$(date +%s)" box.conf
 runuser -u archive -- archive serve --db box.db --at "$(date +%s)" "127.0.0.1:$1" 1000 &
 serving=$!
 trap 'kill -KILL $(cat "/proc/$serving/task/$serving/children") "$serving" 2> /dev/null || true' EXIT
-upload "http://127.0.0.1:$1" /given/one.changes --run
+upload "http://127.0.0.1:$1" /given/one.changes --most 64 --run
 runuser -u archive -- mkdir copies
 runuser -u archive -- backup --keep 7 box.db copies
 # What waits for the server stopped itself with it, and has to go on with it.
 echo "after the backup: $(grep State "/proc/$serving/status")"
-with_sidecars /given/two.changes ready > /dev/null
+with_sidecars --most 64 /given/two.changes ready > /dev/null
 if command -v dput > /dev/null; then
     HOME=/given dput -c /given/dput.cf box ready/two.changes && echo dput
 fi
@@ -156,7 +158,7 @@ exec < /dev/null
 rm -f /var/lib/man-db/auto-update
 rm -f /usr/sbin/policy-rc.d
 dpkg -i /given/*.deb > /dev/null
-systemctl --quiet enable boqitsel.service boqitsel-queue.timer boqitsel-clean.timer boqitsel-backup.timer
+systemctl --quiet enable boqitsel.service boqitsel-queue.timer boqitsel-sign.path boqitsel-sign.timer boqitsel-clean.timer boqitsel-backup.timer
 mkdir -p /run/systemd/system
 dpkg-divert --quiet --local --rename --add /usr/bin/systemctl
 cp /given/systemctl /usr/bin/systemctl
@@ -287,6 +289,9 @@ class Package(Room):
             ("boqitsel.service", snippet("box.service", {"/usr/local/bin/archive": "/usr/bin/boqitsel"})),
             ("boqitsel-queue.service", snippet("queue.service")),
             ("boqitsel-queue.timer", snippet("queue.timer")),
+            ("boqitsel-sign.service", snippet("sign.service")),
+            ("boqitsel-sign.path", snippet("sign.path")),
+            ("boqitsel-sign.timer", snippet("sign.timer")),
             ("boqitsel-clean.service", snippet("clean.service")),
             ("boqitsel-clean.timer", snippet("clean.timer")),
             ("boqitsel-backup.service", snippet("backup.service", {"/usr/local/bin/backup": "/usr/bin/boqitsel-backup"})),
@@ -299,8 +304,15 @@ class Package(Room):
         self.assertEqual((examples / "sign").read_text(), snippet("sign"))
         self.assertEqual((examples / "sign-tree").read_text(), snippet("sign-tree"))
         self.assertTrue(os.access(examples / "sign-tree", os.X_OK))
+        self.assertEqual((examples / "export.conf").read_text(), snippet("export.conf", {"/usr/local/bin/archive": "/usr/bin/boqitsel"}))
         self.assertEqual((examples / "nginx.conf").read_text(), snippet("nginx"))
         self.assertEqual((examples / "nginx-tree.conf").read_text(), snippet("tree by nginx"))
+        # What the lines for a signed tree copy and enable is there.
+        begin = snippet("signed tree as a service")
+        for name in re.findall(r"/usr/share/doc/boqitsel/examples/(\S+)", begin):
+            self.assertTrue((examples / name).is_file(), name)
+        for name in re.findall(r"boqitsel-\S+", begin):
+            self.assertTrue((units / name).is_file(), name)
         self.assertNotIn("enable", (root / "DEBIAN/postinst").read_text())
         for name in ("postinst", "prerm", "postrm"):
             self.assertEqual(run("sh", "-n", root / "DEBIAN" / name), (0, "", ""))
@@ -419,10 +431,11 @@ class Scripts(Root):
         self.with_package()
         (self.room / "given/systemctl").write_text(SYSTEMCTL)
         (self.room / "given/systemctl").chmod(0o755)
-        enabled = ["boqitsel-backup.timer", "boqitsel-clean.timer", "boqitsel-queue.timer", "boqitsel.service"]
+        parts = "-backup.timer", "-clean.timer", "-queue.timer", "-sign.path", "-sign.timer", ".service"
+        enabled = [f"boqitsel{it}" for it in parts]
         *first, disabling, reloading, last = self.inside(UNITS_END).splitlines()
-        self.assertEqual(first[:5], [*enabled, "again"])
-        stopped = [it for line in first[5:] for it in line.split() if it.startswith("boqitsel") and " stop " in line]
+        self.assertEqual(first[: len(enabled) + 1], [*enabled, "again"])
+        stopped = [it for line in first[len(enabled) + 1 :] for it in line.split() if it.startswith("boqitsel") and " stop " in line]
         self.assertEqual(sorted(stopped), sorted(make_deb().UNITS))
         self.assertEqual(sorted(disabling.split()[3:]), enabled)
         self.assertEqual((" disable " in disabling, reloading, last), (True, "systemctl --system daemon-reload", "none"))
@@ -439,7 +452,6 @@ class Installed(Root):
         given = self.room / "given"
         deb = given / DEB
         shutil.copy(ROOT / path.strip(), deb)
-        self.assertLess(deb.stat().st_size, LARGEST)
         port = free_port()
         for number, name in ((1, "one"), (2, "two")):
             (given / f"{name}.changes").write_text(changes_of(deb, number))

@@ -109,6 +109,11 @@ class Pages(unittest.TestCase):
         more = page.replace(row, f"{row}\n{row.replace('vers', 'nothing', 1)}")
         self.assertIn(f"{path}: there is no crate nothing", self.other(pages.check_crates, path, more))
 
+    def test_a_page_that_no_page_leads_to_is_refused(self):
+        for naming, path in (("README.md", "docs/USING.md"), ("docs/FIGURES.md", "bench/FIGURES.md")):
+            found = self.other(pages.check_crates, naming, self.repository.pages[naming].replace(path, "a page"))
+            self.assertEqual(found, {f"{naming}: it does not say where {path} is"})
+
     def test_a_crate_of_which_nothing_is_said_is_refused(self):
         path = "docs/PROVED.md"
         page = self.repository.pages[path]

@@ -71,6 +71,26 @@ class Gate(unittest.TestCase):
         with unittest.mock.patch.dict(os.environ, {"PATH": str(self.room / "none")}), contextlib.redirect_stdout(io.StringIO()):
             self.assertEqual(run.gate(), (0, 1))
 
+    def test_what_failed_is_said_again(self):
+        """Of what the gate prints, the lines that say what failed."""
+        faults = [
+            "rt: desk NOT PROVED",
+            "rt: must-fail sums/entry_257.edit: NOT REFUSED: the crate is still proved with this edit",
+            "rt: must-fail sums/entry_257.edit: NOT TRIED: its check was killed, most likely for memory",
+            "rt: test_rows: the program had not ended after 120 seconds",
+            "rt: test_rows (built by Rattle's own compiler; the LLVM build passed): the program ended with status 1, and not 0; it said: x",
+            "rt: test_calls: its tests FAILED",
+            "rt: FAILED: desk sums/entry_257.edit",
+        ]
+        others = ["rt: desk proved", "rt: must-fail sums/entry_257.edit: refused, as it must be", "fn desk::routes::Desk::new: proved"]
+        (self.room / "rt").write_text("#!/bin/sh\ncat lines\necho '5 passed, 2 failed'\nexit 1\n")
+        (self.room / "rt").chmod(0o755)
+        (self.room / "lines").write_text("".join(f"{it}\n" for it in [*others, *faults, *others]))
+        changes = {"PATH": f"{self.room}:/usr/bin:/bin", "CI": "true"}
+        with unittest.mock.patch.dict(os.environ, changes), contextlib.redirect_stdout(io.StringIO()):
+            passed, count, _, *said = run.gate()
+        self.assertEqual((passed, count, said), (5, 2, [f"Of the gate: {it}" for it in faults]))
+
 
 class Lines(unittest.TestCase):
     def test_the_last_lines(self):
@@ -86,6 +106,11 @@ class Lines(unittest.TestCase):
         wanted = ["The gate took 2.5 minutes.", *wanted, "3 skipped", "6 passed, 2 failed"]
         self.assertEqual((status, printed.getvalue().splitlines()), (1, wanted))
         self.assertEqual(run.told_of_skipped([]), ["0 skipped"])
+
+    def test_which_tools_failed(self):
+        with unittest.mock.patch.object(run, "is_passed", lambda line: line == "good"):
+            self.assertEqual(run.each_of(["good", "bad --part", "good", "tests.none"])(), (2, 2, "Failed: bad --part", "Failed: tests.none"))
+            self.assertEqual(run.each_of(["good"])(), (1, 0))
 
 
 if __name__ == "__main__":

@@ -327,6 +327,82 @@ class Uploads(unittest.TestCase):
                 self.assertEqual(len(done[1].splitlines()), 3)
                 self.assertEqual(self.archive.requests, [("GET", "/verdicts"), *(("PUT", f"/incoming/{name}") for name in FILES[:2])])
 
+    def test_a_file_that_is_too_large_for_the_archive(self):
+        """What is printed names the field that says how large one may be."""
+        for status, text, line, reason in (
+            (
+                413,
+                "413 Payload Too Large\n",
+                "refused 413 Request Entity Too Large {}",
+                "The file is larger than the archive takes, 4 MiB or what MaxFileSize says in its configuration, or than the proxy takes.",
+            ),
+            (422, "Q2\n", "refused Q2 {}", "The file is larger than the archive takes: 4 MiB, or what MaxFileSize says in its configuration."),
+        ):
+            self.archive.faults["PUT", f"/incoming/{FILES[0]}"] = [(status, text)]
+            self.check((1, f"{line.format(FILES[0])}\n{reason}\n"))
+
+    def pad(self, size):
+        """Gives the upload another package file, of this size, which its .changes lists. Only its data are other ones."""
+        package, path = self.room / FILES[0], pathlib.Path(self.changes)
+        old = package.read_bytes()
+        start = old.index(b"data.tar")
+        rest = size - start - 60
+        # A member of this name is the data, whatever is in it, and the archive looks into none.
+        body = old[:start] + b"data.tar".ljust(16) + b"0".ljust(12) + b"0".ljust(6) * 2 + b"100644".ljust(8) + b"%d" % rest + b" " * (10 - len(str(rest))) + b"`\n"
+        package.write_bytes(body + bytes(rest))
+        text = path.read_text()
+        for kind in ("md5", "sha1", "sha256"):
+            text = text.replace(hashlib.new(kind, old).hexdigest(), hashlib.new(kind, package.read_bytes()).hexdigest())
+        path.write_text(text.replace(f" {len(old)} ", f" {size} "))
+
+    def test_the_most_bytes_of_a_file(self):
+        """4 MiB if nothing is said, and what --most says, to the byte: of what is made here, and of what is sent as it is."""
+        hint = ": give --most, if MaxFileSize of the archive is larger"
+        ready = self.room / "ready"
+        for size, words, most in (
+            (4194304, (), None),
+            (4194305, (), 4194304),
+            (4194305, ("--most", "4"), 4194304),
+            (4194305, ("--most", "5"), None),
+            (5242880, ("--most=5",), None),
+            (5242881, ("--most", "5"), 5242880),
+            (5242881, ("--most", "1024"), None),
+        ):
+            with self.subTest(f"{size} {words}"):
+                self.pad(size)
+                line = [sys.executable, f"{ROOT}/bin/with_sidecars", "--most", "1024", self.changes, ready]
+                subprocess.run(line, check=True, capture_output=True, timeout=LONG)
+                for changes, word in ((self.changes, "new"), (str(ready / CHANGES), "again")):
+                    self.archive.requests.clear()
+                    if most:
+                        self.check((1, ""), *words, changes=changes, told=f"upload: {CHANGES}: {FILES[0]} has more than {most} bytes{hint}\n")
+                        self.assertEqual(self.archive.requests, [])
+                        continue
+                    status, printed, told = self.upload(*words, changes=changes)
+                    self.assertEqual((status, printed.splitlines()[0], told), (0, f"{word} {FILES[0]}", ""))
+                    self.assertEqual(self.archive.bodies[FILES[0]][-1], (self.room / FILES[0]).read_bytes())
+                self.archive.bodies.clear()
+
+    def test_the_most_bytes_of_a_package_file_alone(self):
+        self.pad(5242880)
+        deb, words = str(self.room / FILES[0]), ("--distribution", "box", "--most")
+        hint = ": give --most, if MaxFileSize of the archive is larger"
+        self.check((1, ""), *words, "4", changes=deb, told=f"upload: {FILES[0]} has more than 4194304 bytes{hint}\n")
+        self.assertEqual(self.archive.requests, [])
+        self.check((0, "".join(f"new {name}\n" for name in (FILES[0], FILES[1], CHANGES))), *words, "5", changes=deb)
+        self.assertEqual(self.archive.bodies[FILES[0]], [(self.room / FILES[0]).read_bytes()])
+
+    def test_a_file_that_grows_beyond_the_most_is_not_sent(self):
+        upload = tool("bin/upload")
+        server = upload.Server(upload.url_of(self.url), None, 5 << 20)
+        path = self.room / "grown.deb"
+        path.write_bytes(bytes(5 << 20))
+        self.assertEqual(server.deliver(path), "new")
+        path.write_bytes(bytes((5 << 20) + 1))
+        with self.assertRaisesRegex(upload.sidecars.TooLarge, "^grown.deb has more than 5242880 bytes$"):
+            server.deliver(path)
+        self.assertEqual(self.archive.requests, [("PUT", "/incoming/grown.deb")])
+
     def test_what_passes_is_waited_for(self):
         path = f"/incoming/{FILES[2]}"
         self.archive.faults["PUT", path] = [(507, ""), (507, ""), (503, ""), (400, "")]
@@ -369,6 +445,11 @@ class Uploads(unittest.TestCase):
             (self.url, self.changes, "--login", self.room),
             (self.url, self.changes, "--login", self.room / "no_text"),
             (self.url, self.changes, "--within", "0"),
+            (self.url, self.changes, "--most", "3"),
+            (self.url, self.changes, "--most", "1025"),
+            (self.url, self.changes, "--most", "05"),
+            (self.url, self.changes, "--most", "5 MiB"),
+            (self.url, self.changes, "--most", ""),
             ("http://127.0.0.1/a path", self.changes),
             ("http://127.0.0.1/\u00e9", self.changes),
             ("http://a..example.org/", self.changes),
@@ -384,6 +465,7 @@ class Uploads(unittest.TestCase):
         ran = subprocess.run([sys.executable, TOOL, "--help"], capture_output=True, text=True, check=False, timeout=LONG)
         self.assertEqual((ran.returncode, ran.stderr), (0, ""))
         self.assertIn("upload URL FILE.changes", ran.stdout)
+        self.assertIn("MaxFileSize", ran.stdout)
 
     def test_what_is_no_upload(self):
         for name, text in (("none", None), ("other", "Format: 1.8\n")):

@@ -63,15 +63,22 @@ class Using(snippets.Case):
         self.room.write("units/boqitsel.service.d/export.conf", snippet("export.conf", {"/usr/local/bin/archive": "/bin/true"}))
         self.room.write("units/boqitsel-queue.service", snippet("queue.service"))
         self.room.write("units/boqitsel-queue.service.d/sign.conf", snippet("sign.conf", {"/srv/box/sign": "/bin/true"}))
-        self.room.write("units/boqitsel-queue.service.d/sign-tree.conf", snippet("sign-tree.conf", {"/srv/box/sign-tree": "/bin/true"}))
         self.room.write("units/boqitsel-queue.timer", snippet("queue.timer"))
+        self.room.write("units/boqitsel-sign.service", snippet("sign.service", {"/srv/box/sign-tree": "/bin/true"}))
+        self.room.write("units/boqitsel-sign.path", snippet("sign.path"))
+        self.room.write("units/boqitsel-sign.timer", snippet("sign.timer"))
         self.room.write("units/boqitsel-clean.service", snippet("clean.service"))
         self.room.write("units/boqitsel-clean.timer", snippet("clean.timer"))
         self.room.write("units/boqitsel-backup.service", snippet("backup.service", {"/usr/local/bin/backup": "/bin/true"}))
         self.room.write("units/boqitsel-backup.timer", snippet("backup.timer"))
         self.room.variables["SYSTEMD_UNIT_PATH"] = f"{self.room.folder}/units:"
-        for name in (".service", "-queue.service", "-queue.timer", "-clean.service", "-clean.timer", "-backup.service", "-backup.timer"):
-            self.assertEqual(self.passes("systemd-analyze", "verify", f"{self.room.folder}/units/boqitsel{name}"), "")
+        units = f"{self.room.folder}/units"
+        self.shell(snippet("units of another archive", {"/usr/lib/systemd/system": units, "/etc/systemd/system": units}))
+        self.assertIn("\nWorkingDirectory=/srv/tools\n", self.room.read("units/tools.service"))
+        self.assertIn("http://127.0.0.1:8081/queue/run", self.room.read("units/tools-queue.service"))
+        for path in sorted(pathlib.Path(units).glob("*.*")):
+            if path.is_file():
+                self.assertEqual(self.passes("systemd-analyze", "verify", path), "")
 
     @needs("nginx", "openssl")
     def test_the_texts_for_nginx_are_right(self):

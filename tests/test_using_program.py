@@ -121,7 +121,7 @@ class Commands(Case):
         self.shell(f"make -s install PREFIX={prefix} PROGRAM={os.path.abspath(PROGRAM)}", cwd=ROOT)
         self.assertEqual(sorted(os.listdir(f"{prefix}/bin")), ["adopt", "archive", "backup", "upload", "with_sidecars"])
         self.assertEqual(self.shell(f"{prefix}/bin/archive compare 1.0 1.1"), "less\n")
-        self.assertIn("with_sidecars [--section SECTION] FILE.changes.. FOLDER", self.shell(f"{prefix}/bin/with_sidecars --help"))
+        self.assertIn("with_sidecars [--section SECTION] [--most N] FILE.changes.. FOLDER", self.shell(f"{prefix}/bin/with_sidecars --help"))
         self.assertIn("upload URL FILE.changes", self.shell(f"{prefix}/bin/upload --help"))
 
     def test_the_commands_are_those_of_the_program(self):

@@ -206,6 +206,32 @@ class Proxy(unittest.TestCase):
             pathlib.Path(self.site.work, "large.deb").write_bytes(body.ljust(size, b"."))
             self.assertEqual(self.status("incoming/", f"-u 'ann:{PASSWORD}' -H 'Expect:' -T large.deb"), wanted)
 
+    def test_a_larger_file_passes(self):
+        """If the configuration allows it, and the page's text says the same number of MiB: a file of 5 MiB passes, and none of a byte more."""
+        self.site.end(self.site.serving)
+        self.site.write("work/box.conf", f"MaxFileSize: 5\n{snippet('configuration')}")
+        self.site.sure('archive configure --db box.db --at "$(date +%s)" box.conf')
+        self.site.serve()
+        self.site.write("uploaders", f"ann:{{PLAIN}}{PASSWORD}\n")
+        login, body = f"-u 'ann:{PASSWORD}' -H 'Expect:'", bytes(5 << 20)
+        pathlib.Path(self.site.work, "five.deb").write_bytes(body)
+        pathlib.Path(self.site.work, "more.deb").write_bytes(body + b".")
+        self.assertEqual(self.status("incoming/", f"{login} -T five.deb"), "413")
+        port = free_port()
+        text = snippet("nginx", {"client_max_body_size 4194304;": "client_max_body_size 5m;"})
+        self.site.start(["nginx", "-c", self.site.proxy(text, port, self.site.behind)], port=port)
+        self.site.url = f"https://localhost:{port}"
+        for name, wanted in (("five.deb", "201"), ("five.deb", "200"), ("more.deb", "413")):
+            self.assertEqual(self.status("incoming/", f"{login} -T {name}"), wanted)
+        # An upload of such a file, and what the proxy then hands out.
+        changes = built(self.site.folder, uploads.Package("large", pad=5_200_000))
+        self.site.sure(f"with_sidecars --most 5 {changes} ready > files")
+        self.site.sure(f"for file in $(cat files); do curl -sS --fail {login} -T $file {self.site.url}/incoming/; done")
+        self.assertEqual(self.site.queue(), "accepted large_1.0-1_amd64.changes\n")
+        path = "pool/main/l/large/large_1.0-1_amd64.deb"
+        for _ in range(2):
+            self.site.sure(f"curl -sS --fail -o got {self.site.url}/{path}; cmp got ../large_1.0-1_amd64.deb")
+
     def test_the_pool_is_handed_out_while_the_archive_is_away(self):
         self.site.upload(HELLO)
         # A second proxy holds files to be new for a second, and not for ten minutes.

@@ -24,14 +24,16 @@ def send_slowly(client, request, pause):
 
 
 class Waits(Lines):
-    def held(self, begin, least, most, reply=b""):
+    def held(self, begin, least, most, reply=b"", db=None):
         """A client begins, and another comes after it, which is answered between these numbers of seconds after the first
-        came."""
-        with Serving(self.made(), 2) as serving, serving.connected() as client:
+        came. The archive is a new one, if it is not given."""
+        with Serving(db or self.made(), 2) as serving, serving.connected() as client:
             start = time.monotonic()
             threading.Thread(target=begin, args=(client,), daemon=True).start()
             time.sleep(0.2)
-            self.assertEqual(serving.answer(get("verdicts")), NOTHING)
+            other = serving.sent(get("verdicts"))
+            other.settimeout(most + 10)
+            self.assertEqual(rest(other), NOTHING)
             waited = seconds_since(start)
             self.assertEqual(rest(client), reply)
             self.assertEqual(serving.ended(), (0, "", ""))
@@ -50,6 +52,26 @@ class Waits(Lines):
 
     def test_many_bytes_slowly(self):
         self.held(lambda client: send_slowly(client, b"PUT /incoming/a HTTP/1.1\r\nContent-Length: 4000\r\n\r\n" + b"." * 4000, 0.1), 119.9, 123)
+
+    def test_many_mebibytes_and_then_a_byte_now_and_then(self):
+        """34 MiB are 30 more than the first four, and give 30 seconds more."""
+        def begin(client):
+            with contextlib.suppress(OSError):
+                client.sendall(b"PUT /incoming/a HTTP/1.1\r\nContent-Length: 50331648\r\n\r\n")
+                for _ in range(34):
+                    client.sendall(bytes(1 << 20))
+            send_slowly(client, bytes(1000), 25)
+
+        self.held(begin, 149.9, 153, db=self.made_for_large())
+
+    def made_for_large(self):
+        """A new database with an archive that takes files of 64 MiB."""
+        db = self.made()
+        conf = f"{db}.conf"
+        with open(conf, "w", encoding="ascii") as it:
+            it.write("Codename: box\nArchitectures: amd64 source\nComponents: main\nMaxFileSize: 64\n")
+        self.line(0, "configure", db, "--at", "0", conf)
+        return db
 
     def test_a_reply_that_is_not_read(self):
         """A file of nearly 4 MiB, of which the system takes a part off the server, and the client nothing."""

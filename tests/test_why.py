@@ -214,6 +214,7 @@ class Refused(Why):
             (dsc_of(tar, changes={"Source: hello\n": ""}), {}, "fault C2 Source"),
             (dsc_of(tar, changes=signed), {}, "fault C1 P3:1"),
             (b"", {}, "fault C1 P8"),
+            (dsc_of(tar).replace(b" %d " % len(TAR_BODY), b" 4194305 "), {}, "fault C9 S5"),
             (dsc_of(tar, changes={"Source: hello": "Source: other"}), {}, "source other, not hello"),
             (dsc_of(tar, changes={"\nVersion: 1.0-1": "\nVersion: 2.0-1"}), {}, "version 2.0-1, not 1.0-1"),
             (dsc_of({**tar, DEB: b"abc"}), {}, f"lists {DEB}"),
@@ -332,6 +333,39 @@ class Today(Why):
         for name, verdict, today in (("first.changes", 0, 9), ("second.changes", 9, None)):
             names = f"file {DEB} {print_of(bodies[name])}", f"{PLACE}/{DEB}", f"there {print_of(b'abcde')}"
             self.check([judged(name, texts[name], verdict, *names, today=today)], name)
+
+
+class Larger(Why):
+    """Files of more than 4 MiB."""
+
+    CONF = SUITES.replace("Codename: box\n", "Codename: box\nMaxFileSize: 5\n")
+
+    def test_a_tarball_that_is_too_large_by_now(self):
+        """Its size was read when the upload was accepted. It is not read any more under a lower limit, and an upload that waits is refused."""
+        large = {TAR: bytes(5 << 20)}
+        files = {DSC: dsc_of(large), **large}
+        body, other = record(files), record(files, changes={"Urgency: low": "Urgency: high"})
+        shown = "shown box hello 1.0-1 source"
+        self.judge(0, files, body)
+        self.check([judged(CHANGES, body, 0, shown)], CHANGES)
+        self.put({"other.changes": other})
+        self.configure({"MaxFileSize: 5\n": ""})
+        named = f"file {DSC}", "fault C9 S5"
+        self.check([judged(CHANGES, body, 0, *named, today=6)], CHANGES)
+        self.assertEqual(self.line(0, "run", self.db, "--at", "1"), "refused 6 other.changes\n")
+        self.check([judged("other.changes", other, 6, *named)], "other.changes")
+        self.configure({})
+        self.check([judged(CHANGES, body, 0, shown)], CHANGES)
+        self.check([judged("other.changes", other, 6, today=0)], "other.changes")
+
+    def test_a_dsc_that_lists_a_larger_file(self):
+        """It is read up to the limit: to the byte."""
+        for size, verdict, named in ((5242880, 8, None), (5242881, 6, "fault C9 S5")):
+            dsc = dsc_of({TAR: TAR_BODY}).replace(b" %d " % len(TAR_BODY), b" %d " % size)
+            body, name = record({DSC: dsc}), f"size{size}.changes"
+            self.judge(verdict, {DSC: dsc}, body, name)
+            names = (f"file {DSC}", named) if named else (f"file {TAR} {size} {digest('sha256', TAR_BODY)}", f"{PLACE}/{TAR}", "there nothing")
+            self.check([judged(name, body, verdict, *names)], name)
 
 
 class Cleaned(Why):

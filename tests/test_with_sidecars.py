@@ -18,6 +18,7 @@ import subprocess
 import sys
 import tempfile
 import time
+import tracemalloc
 import unittest
 import unittest.mock
 
@@ -29,6 +30,8 @@ from uploads import uploads
 TOOL = f"{ROOT}/bin/with_sidecars"
 # How long a test waits for what should come, in seconds, and how much memory with_sidecars gets.
 LONG, MEMORY = 120, 1 << 28
+# What is said below a file that an archive may take all the same.
+HINT = ": give --most, if MaxFileSize of the archive is larger"
 UMASK = os.umask(0)
 os.umask(UMASK)
 
@@ -352,11 +355,69 @@ class Uploads(unittest.TestCase):
 
     def test_a_file_of_any_size(self):
         """No more is read of it than the archive takes."""
-        for name, listed in (("large.tar.gz", True), ("large.changes", False)):
+        for name, listed, hint in (("large.tar.gz", True, HINT), ("large.dsc", True, ""), ("large.changes", False, "")):
             changes = self.listing(name) if listed else self.built / name
             with open(self.built / name, "wb") as it:
                 it.truncate(1 << 40)
-            self.check_refused(changes, f"{name} has more than 4194304 bytes")
+            self.check_refused(changes, f"{name} has more than 4194304 bytes{hint}")
+
+    def check_most(self, body, *words, most=None, name="large.tar.gz"):
+        """Checks whether a file with these contents comes: its copy, or that it has more bytes than these."""
+        (self.built / name).write_bytes(body)
+        done = with_sidecars(*words, self.listing(name, body), self.ready)
+        if most:
+            hint = "" if name.endswith((".dsc", ".changes")) else HINT
+            self.assertEqual((done.stdout, done.stderr, done.returncode), ("", told(f"odd.changes: {name} has more than {most} bytes{hint}"), 1))
+            self.assertFalse(self.ready.exists())
+            return
+        self.assertEqual((done.stderr, done.returncode), ("", 0))
+        paths = done.stdout.splitlines()
+        self.assertEqual(len(paths), 4)
+        self.check_lists(paths)
+        self.assertEqual((self.ready / name).read_bytes(), body)
+        shutil.rmtree(self.ready)
+
+    def test_the_most_bytes_of_a_file(self):
+        """4 MiB if nothing is said, and what --most says, to the byte."""
+        mebibyte = bytes(range(256)) * 4096
+        self.check_most(4 * mebibyte)
+        self.check_most(4 * mebibyte + b"x", most=4194304)
+        self.check_most(4 * mebibyte, "--most", "4")
+        self.check_most(4 * mebibyte + b"x", "--most", "4", most=4194304)
+        self.check_most(4 * mebibyte + b"x", "--most=5")
+        self.check_most(5 * mebibyte, "--most", "5")
+        self.check_most(5 * mebibyte + b"x", "--most", "5", most=5242880)
+        self.check_most(5 * mebibyte + b"x", "--most", "1024")
+
+    def test_the_most_bytes_of_a_text(self):
+        """They are the same whatever --most says: no text is read that is longer."""
+        for name in ("large.dsc", "large.changes"):
+            self.check_most(b"A: " + b"x" * 4194302, "--most", "1024", most=4194304, name=name)
+        changes = self.built / "long.changes"
+        changes.write_bytes(b"A: " + b"x" * 4194302)
+        done = with_sidecars("--most", "1024", changes, self.ready)
+        self.assertEqual((done.stdout, done.stderr, done.returncode), ("", told("long.changes: long.changes has more than 4194304 bytes"), 1))
+
+    def test_what_is_no_number_of_mebibytes(self):
+        changes = self.changes()
+        for word in ("3", "0", "-5", "05", "1025", "10240", "5 MiB", "5M", "4.5", "+5", "", "x", "\u0665"):
+            done = with_sidecars(f"--most={word}", changes, self.ready)
+            self.assertEqual((done.returncode, done.stdout), (2, ""), word)
+            self.assertIn("with_sidecars: error: argument --most: it is no number from 4 to 1024\n", done.stderr)
+        self.assertFalse(self.ready.exists())
+
+    def test_the_memory_that_a_large_file_takes(self):
+        """It is that of a small one: what is read of it is written before more is read."""
+        it, name = tool("bin/with_sidecars"), "large.tar.gz"
+        body = bytes(48 << 20)
+        (self.built / name).write_bytes(body)
+        changes = self.listing(name, body)
+        tracemalloc.start()
+        self.addCleanup(tracemalloc.stop)
+        before = tracemalloc.get_traced_memory()[0]
+        it.write_upload(changes, self.ready, most=64 << 20)
+        self.assertLess(tracemalloc.get_traced_memory()[1] - before, 2 << 20)
+        self.assertEqual((self.ready / name).stat().st_size, len(body))
 
     def test_a_file_that_changes_while_it_is_read(self):
         """As at the second reading, which copies it."""
@@ -563,7 +624,8 @@ class Uploads(unittest.TestCase):
     def test_help(self):
         done = run(sys.executable, TOOL, "--help")
         self.assertEqual((done.stderr, done.returncode), ("", 0))
-        self.assertIn("with_sidecars [--section SECTION] FILE.changes.. FOLDER\n", done.stdout)
+        self.assertIn("with_sidecars [--section SECTION] [--most N] FILE.changes.. FOLDER\n", done.stdout)
+        self.assertIn("MaxFileSize", done.stdout)
 
     def test_a_package_under_another_name(self):
         deb = self.built / self.build("hallo", "1.0-1")
@@ -644,9 +706,14 @@ class Uploads(unittest.TestCase):
             ("odd.deb", "odd.deb: dpkg-deb: error: "),
             ("link.deb", "link.deb is a link: put the file itself there"),
             ("fifo.deb", "fifo.deb is no regular file"),
-            ("large.deb", "large.deb has more than 4194304 bytes"),
+            ("large.deb", f"large.deb has more than 4194304 bytes{HINT}"),
         ):
             done = with_sidecars("--distribution", "box", first, self.built / name, self.ready)
+            self.assertEqual((done.returncode, done.stdout, done.stderr.startswith(told(wanted)[:-1])), (1, "", True), done.stderr)
+        with open(self.built / "large.deb", "wb") as it:
+            it.truncate((5 << 20) + 1)
+        for word, wanted in (("5", f"large.deb has more than 5242880 bytes{HINT}"), ("6", "large.deb: dpkg-deb: error: ")):
+            done = with_sidecars("--distribution", "box", "--most", word, first, self.built / "large.deb", self.ready)
             self.assertEqual((done.returncode, done.stdout, done.stderr.startswith(told(wanted)[:-1])), (1, "", True), done.stderr)
         self.assertEqual(with_sidecars("--distribution", "box", first, self.built).returncode, 1)
         for words in ((), ("--distribution", "two words"), ("--distribution", "box", "--by", "Ann\nOther: x")):

@@ -5,8 +5,9 @@
 //! program.
 //!
 //! The commands go through `drive`, so the program makes the call of which the promise speaks. `drive` is handed the bodies, so a group of
-//! deliveries is in memory: up to 16 MiB of bodies, four of the largest files. A call costs nothing besides its commands, so a larger
-//! group would save nothing, and would print later.
+//! deliveries is in memory: up to 16 MiB of bodies. A call costs nothing besides its commands, so a larger group would save nothing, and
+//! would print later. A file of more than 16 MiB is in no group. As by `put`, it is handed to `receive`, which stores its pieces as they
+//! are read. Only what has no length beforehand, such as a pipe, is read whole however long it is, and a longer one is a group of its own.
 //!
 //! `drive` makes all commands that it is handed, also those after a fault of memory or the disk. Then their order is lost. If a copy finds
 //! no room and the removal after it is done, no suite shows the package any more, and the list given again can't bring it back. So a group
@@ -14,9 +15,9 @@
 
 ghost use Rattle.std.specs.Prelude.{◌≡◌, ◌+◌, nat_le};
 
-use crate::database::{InFile, Opening, close, is_of_database, open_shown};
+use crate::database::{InFile, Opening, close, is_of_database, length_of, open_shown};
 use crate::fault::Stop;
-use crate::files::{body_of, file_name, read_of};
+use crate::files::{body_of, file_name, most_read, opened, read_of};
 use crate::print::{has_refused, print_arrived, print_report};
 use crate::progress::Progress;
 use crate::shown::Shown;
@@ -100,30 +101,32 @@ fn list_at(rt: &HostRuntime, path: &str) -> io::Result<Vec<u8>> {
     Ok(text)
 }
 
-/// The bytes of a file to deliver, or nothing if it can't be read. The files of the database itself can't be read.
+/// The bytes of a file to deliver, up to `most` of them, or nothing if it can't be read. The files of the database itself can't be read.
 fn readable<R: Files + AllocGlobal>(
     rt: &R,
     db: &str,
     path: &str,
+    most: u64,
 ) -> Result<Option<Vec<u8>>, Fault> {
     if is_of_database(rt, db, path)? {
         return Ok(None);
     }
-    match body_of(rt, path) {
+    match body_of(rt, path, most) {
         Ok(body) => Ok(Some(body)),
         Err(Stop::Refused(fault)) => Err(fault),
         Err(_) => Ok(None),
     }
 }
 
-/// The delivery of a file, or nothing if it can't be read. Then a line on standard error says so.
+/// The delivery of a file, of which up to `most` bytes are read, or nothing if it can't be read. Then a line on standard error says so.
 fn delivery<'a, R: Files + AllocGlobal, E: Write>(
     rt: &R,
     opening: Opening<'_>,
     path: &str,
+    most: u64,
     progress: &mut Progress<'_, E>,
 ) -> Result<Option<Command>, Stop<'a>> {
-    let Some(body) = readable(rt, opening.db, path)? else {
+    let Some(body) = readable(rt, opening.db, path, most)? else {
         progress.tell(&Stop::Unreadable(Shown(path)))?;
         return Ok(None);
     };
@@ -169,16 +172,18 @@ fn removing(alloc: Global, at: u64, suite: &str, name: &str) -> Result<Command, 
     })
 }
 
-/// The command that a line asks for, or nothing if its file can't be read. Then a line on standard error says so.
+/// The command that a line asks for, or nothing if its file can't be read. Then a line on standard error says so. Up to `most` bytes of the
+/// file are read.
 fn command_of<'a, R: Files + AllocGlobal, E: Write>(
     rt: &R,
     opening: Opening<'_>,
     request: &ListRequest<'_>,
+    most: u64,
     progress: &mut Progress<'_, E>,
 ) -> Result<Option<Command>, Stop<'a>> {
     let (alloc, at) = (rt.alloc(), opening.at);
     let command = match request {
-        Request::Put { path } => return delivery(rt, opening, path, progress),
+        Request::Put { path } => return delivery(rt, opening, path, most, progress),
         Request::Run => Command::Run { moment: at },
         Request::Copy { from, to, source } => copying(alloc, at, from, to, source)?,
         Request::Promote { from, to, .. } => promoting(alloc, at, from, to)?,
@@ -402,10 +407,83 @@ fn make_alone<'a, 'l, K: Keeper, W: Write, E: Write>(
     Ok(before && done)
 }
 
+/// The path and the number of bytes of the file of a line, if it is a regular file with more bytes than a group may have.
+fn large_file<'l, R: Files>(rt: &R, request: &ListRequest<'l>) -> Option<(&'l str, u64)> {
+    match *request {
+        Request::Put { path } => match length_of(rt, path) {
+            Some(size) if size > MOST_BYTES => Some((path, size)),
+            _ => None,
+        },
+        _ => None,
+    }
+}
+
+/// A file to deliver, open to be read, or nothing if it can't be read. The files of the database itself can't be read.
+fn readable_file<R: Files + AllocGlobal>(
+    rt: &R,
+    db: &str,
+    path: &str,
+) -> Result<Option<R::File>, AllocError> {
+    if is_of_database(rt, db, path)? {
+        return Ok(None);
+    }
+    Ok(opened(rt, path).ok())
+}
+
+/// Makes a group, and then delivers the file of a line, which has `size` bytes and is read while it is delivered. It prints the answer, and
+/// has that written out. If the file can't be read, a line on standard error says so, and the group stays. It says whether all that it made
+/// was done, and whether the file could be read.
+fn take_large<'a, R: Files + AllocGlobal, K: Keeper, W: Write, E: Write>(
+    rt: &R,
+    archive: &mut Archive<K>,
+    opening: Opening<'_>,
+    path: &str,
+    size: u64,
+    group: &mut Group<'_>,
+    out: &mut W,
+    progress: &mut Progress<'_, E>,
+) -> Result<bool, Stop<'a>> {
+    let Some(mut file) = readable_file(rt, opening.db, path)? else {
+        progress.tell(&Stop::Unreadable(Shown(path)))?;
+        progress.advance(1);
+        return Ok(false);
+    };
+    let before = make_group(rt.alloc(), archive, group, out, progress)?;
+    let name = file_name(path);
+    let arrived = archive.receive(rt.alloc(), name, size, &mut file, opening.at);
+    progress.give_way();
+    let is_taken = print_arrived(arrived, name, out)?;
+    out.flush()?;
+    progress.advance(1);
+    Ok(before && is_taken)
+}
+
 /// Adds the delivery of a line to a group. If the bodies of the group leave no room for it, the group is made first. A command of another
 /// kind is a group of its own: the group before it is made first, and then the command at once. So only deliveries, which may be given
 /// again, are made after a command that ends the program. It says whether all that it made was done, and whether the file of the line
 /// could be read.
+fn take_small<'a, 'l, R: Files + AllocGlobal, K: Keeper, W: Write, E: Write>(
+    rt: &R,
+    archive: &mut Archive<K>,
+    opening: Opening<'_>,
+    request: &ListRequest<'l>,
+    group: &mut Group<'l>,
+    out: &mut W,
+    progress: &mut Progress<'_, E>,
+) -> Result<bool, Stop<'a>> {
+    let most = most_read(archive);
+    let Some(command) = command_of(rt, opening, request, most, progress)? else {
+        progress.advance(1);
+        return Ok(false);
+    };
+    if is_delivery(request) {
+        take_delivery(rt.alloc(), archive, request, command, group, out, progress)
+    } else {
+        make_alone(rt.alloc(), archive, request, command, group, out, progress)
+    }
+}
+
+/// Takes a line as `take_small` does, but for the delivery of a file that is in no group.
 fn take_line<'a, 'l, R: Files + AllocGlobal, K: Keeper, W: Write, E: Write>(
     rt: &R,
     archive: &mut Archive<K>,
@@ -415,14 +493,9 @@ fn take_line<'a, 'l, R: Files + AllocGlobal, K: Keeper, W: Write, E: Write>(
     out: &mut W,
     progress: &mut Progress<'_, E>,
 ) -> Result<bool, Stop<'a>> {
-    let Some(command) = command_of(rt, opening, request, progress)? else {
-        progress.advance(1);
-        return Ok(false);
-    };
-    if is_delivery(request) {
-        take_delivery(rt.alloc(), archive, request, command, group, out, progress)
-    } else {
-        make_alone(rt.alloc(), archive, request, command, group, out, progress)
+    match large_file(rt, request) {
+        Some((path, size)) => take_large(rt, archive, opening, path, size, group, out, progress),
+        None => take_small(rt, archive, opening, request, group, out, progress),
     }
 }
 

@@ -12,10 +12,11 @@ use std::alloc::Global;
 use std::io::Write;
 use std::rt::Files;
 
-/// The configuration of a file.
+/// The configuration of a file. A MaxFileSize in it that says no size is refused, although the reading of a stored configuration passes
+/// over it.
 fn config_of<'a, R: Files + AllocGlobal>(rt: &R, conf: &'a str) -> Result<Config, Stop<'a>> {
     let text = conf_body_of(rt, conf)?;
-    Ok(Config::read(rt.alloc(), &text)?)
+    Ok(Config::read_strict(rt.alloc(), &text)?)
 }
 
 /// Makes an archive in a database file at a moment, in seconds since 1970-01-01 00:00:00 UTC, with the configuration of
@@ -33,9 +34,9 @@ pub fn init<'a, K: Keeper + Drop, F: InFile<K>>(
 }
 
 /// Prints what the configuration of a text says, which of its components no export can write, and which of its fields are passed over. It
-/// says whether there are no such components and no such fields.
+/// says whether there are no such components and no such fields. As by `config_of`, a MaxFileSize that says no size is refused.
 fn check_text<'a, W: Write>(alloc: Global, text: &[u8], out: &mut W) -> Result<bool, Stop<'a>> {
-    let config = Config::read(alloc, text)?;
+    let config = Config::read_strict(alloc, text)?;
     let passed_over = unknown_fields(alloc, text)?;
     let lines = check_lines(alloc, &config, &passed_over)?;
     print::print_lines(alloc, &lines, out)?;

@@ -1,21 +1,33 @@
 //! Files that were given.
 //!
 //! A file that says it has no bytes, as some files of the system do, is delivered without a byte. What is no regular file, such as a pipe,
-//! has no length beforehand. It is read whole, up to one byte more than a delivery may have, so that a longer one is refused as too large
-//! (Q2). So is each file of `try`.
+//! has no length beforehand. It is read whole, up to one byte more than the configuration of the archive takes, so that a longer one is
+//! refused as too large (Q2). So is each file of `try`.
 //!
 //! A configuration is not read from a pipe, socket or device that has a name: a command would wait for whoever writes into it, perhaps
 //! without end. What the caller has already opened, such as standard input, is read.
 
+ghost use Rattle.std.specs.Prelude.{◌≡◌, ◌+◌};
+ghost use Rattle.rules.specs.Sizes.{largest};
+
 use crate::fault::Stop;
 use crate::shown::Shown;
-use queue::Fault;
+use keep::Keeper;
+use queue::{Archive, Fault};
 use std::fs::{self, File, Metadata};
 use std::io::{self, Read};
 use std::rt::Files;
 
-/// One byte more than a delivered body may have, so that a longer file is refused as one.
-const MOST_READ: u64 = 4_194_305;
+/// One byte more than a configuration may have, so that a longer file is refused as one.
+const MOST_CONF: u64 = 1_048_577;
+
+/// The most bytes of a file that are read for an archive: one more than its configuration takes, so that a longer file is refused as one.
+pub fn most_read<K: Keeper>(archive: &Archive<K>) -> u64
+    ensures { result ≡ largest (K.book archive.now.keeper).config + 1 }
+{
+    let taken = archive.keeper.config().largest_file();
+    taken + 1
+}
 
 /// The text after a path's last slash.
 pub fn file_name(path: &str) -> &str {
@@ -25,11 +37,9 @@ pub fn file_name(path: &str) -> &str {
     }
 }
 
-fn read_file<R: Files + AllocGlobal>(rt: &R, path: &str) -> io::Result<Vec<u8>> {
+fn read_file<R: Files + AllocGlobal>(rt: &R, path: &str, most: u64) -> io::Result<Vec<u8>> {
     let mut body = Vec::new(rt.alloc());
-    File::open(rt, path)?
-        .take(MOST_READ)
-        .read_to_end(&mut body)?;
+    File::open(rt, path)?.take(most).read_to_end(&mut body)?;
     Ok(body)
 }
 
@@ -52,9 +62,13 @@ pub fn read_of<'a>(read: io::Result<Vec<u8>>, path: &'a str) -> Result<Vec<u8>, 
     }
 }
 
-/// The bytes of a file that was given.
-pub fn body_of<'a, R: Files + AllocGlobal>(rt: &R, path: &'a str) -> Result<Vec<u8>, Stop<'a>> {
-    read_of(read_file(rt, path), path)
+/// The bytes of a file that was given, up to `most` of them.
+pub fn body_of<'a, R: Files + AllocGlobal>(
+    rt: &R,
+    path: &'a str,
+    most: u64,
+) -> Result<Vec<u8>, Stop<'a>> {
+    read_of(read_file(rt, path, most), path)
 }
 
 /// Whether what was looked at is neither a file nor a folder nor a link: a pipe, a socket or a device.
@@ -94,5 +108,5 @@ pub fn conf_body_of<'a, R: Files + AllocGlobal>(
     if may_wait(rt, conf) {
         return Err(Stop::Unreadable(Shown(conf)));
     }
-    body_of(rt, conf)
+    body_of(rt, conf, MOST_CONF)
 }

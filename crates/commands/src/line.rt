@@ -5,7 +5,7 @@ use crate::batch::batch_file;
 use crate::configured::{check, configure, init, migrate};
 use crate::database::{InFile, Opening};
 use crate::fault::{Stop, all_taken};
-use crate::files::{body_of, file_name};
+use crate::files::{body_of, file_name, most_read};
 use crate::shown::Shown;
 use crate::why::Asked;
 use command_line::{CommandLine, LineFault, line};
@@ -39,7 +39,7 @@ fn deliver_file<'a, R: Files + AllocGlobal, K: Keeper>(
     archive: &mut Archive<K>,
     path: &'a str,
 ) -> Result<(), Stop<'a>> {
-    let body = body_of(rt, path)?;
+    let body = body_of(rt, path, most_read(archive))?;
     archive.deliver(rt.alloc(), file_name(path), &body, 0)?;
     Ok(())
 }

@@ -14,10 +14,10 @@ ghost use Rattle.commands.specs.declared.fault.Stop.TheVariants.{NoArchive};
 
 use crate::database::{Opening, is_of_database, length_of};
 use crate::fault::Stop;
-use crate::files::{body_of, file_name, opened};
+use crate::files::{body_of, file_name, most_read, opened};
 use crate::progress::Progress;
 use crate::shown::Shown;
-use keep::{Keeper, LATEST};
+use keep::{FilePiece, KeepFault, Keeper, LATEST};
 use output::listing::{shown_json, shown_lines, verdict_json, waiting_json};
 use queue::{Archive, Arrived, Fault, Promotion, Report};
 use rules::Config;
@@ -106,7 +106,7 @@ fn put_file<'a, R: Files + AllocGlobal, K: Keeper, W: Write, E: Write>(
             archive.receive(rt.alloc(), name, size, &mut file, at)
         }
         None => {
-            let body = body_of(rt, path)?;
+            let body = body_of(rt, path, most_read(archive))?;
             archive.deliver(rt.alloc(), name, &body, at)
         }
     };
@@ -266,8 +266,8 @@ pub fn clean<'a, K: Keeper, W: Write>(
     Ok(())
 }
 
-/// Prints the bytes of the index or the file of the pool at a path.
-pub fn show<'a, K: Keeper, W: Write>(
+/// Prints the bytes of the index at a path.
+fn show_text<'a, K: Keeper, W: Write>(
     alloc: Global,
     archive: &mut Archive<K>,
     path: &str,
@@ -282,6 +282,56 @@ pub fn show<'a, K: Keeper, W: Write>(
         }
         None => Err(Stop::NotFound),
     }
+}
+
+/// Prints a piece of a file, and says how many bytes it has. A piece without bytes is a fault of the disk: no file ends before its last.
+fn print_piece<'a, W: Write>(piece: Option<FilePiece>, out: &mut W) -> Result<u64, Stop<'a>> {
+    match piece {
+        Some(piece) if !piece.bytes.is_empty() => {
+            out.write_all(&piece.bytes)?;
+            Ok(piece.bytes.len() as u64)
+        }
+        _ => Err(Stop::Refused(Fault::Keeper(KeepFault::Disk))),
+    }
+}
+
+/// Prints the bytes of the file of the pool at a path after its first piece: `left` of them. Each piece is written before the next is read.
+#[tactic(auto, using(keep::proofs::ReadLemmas::reads_none, keep::proofs::ReadLemmas::reads_more))]
+fn show_rest<'a, K: Keeper, W: Write>(
+    alloc: Global,
+    archive: &mut Archive<K>,
+    path: &str,
+    mut left: u64,
+    out: &mut W,
+) -> Result<(), Stop<'a>>
+    ensures reads { Reads K.Keeper archive.old.keeper archive.new.keeper }
+{
+    for number in 1..u32::MAX {
+        if left == 0 {
+            break;
+        }
+        let piece = archive.fetch_piece(alloc, path, number)?;
+        left = left.saturating_sub(print_piece(piece, out)?);
+    }
+    Ok(())
+}
+
+/// Prints the bytes of the index or the file of the pool at a path. A file is read and written piece by piece.
+#[tactic(auto, using(keep::proofs::ReadLemmas::reads_none, keep::proofs::ReadLemmas::reads_more))]
+pub fn show<'a, K: Keeper, W: Write>(
+    alloc: Global,
+    archive: &mut Archive<K>,
+    path: &str,
+    out: &mut W,
+) -> Result<(), Stop<'a>>
+    ensures reads { Reads K.Keeper archive.old.keeper archive.new.keeper }
+{
+    let Some(first) = archive.fetch_piece(alloc, path, 0)? else {
+        return show_text(alloc, archive, path, out);
+    };
+    out.write_all(&first.bytes)?;
+    let left = first.size.saturating_sub(first.bytes.len() as u64);
+    show_rest(alloc, archive, path, left, out)
 }
 
 /// An object of JSON for each upload that has no verdict, by what counts at a moment.

@@ -1,6 +1,5 @@
 //! Progress on standard error, if that is a terminal: how far a command is, in one line that is written over itself. The line is erased
 //! before any other line and at the end. Elsewhere nothing is written. A line that can't be written changes nothing.
-//! any other line and at the end. Elsewhere nothing is written. That it can't be written changes nothing.
 
 ghost use Rattle.std.specs.Prelude.{◌≡◌, ◌≤◌, IfOk, string_bytes};
 ghost use Rattle.commands.specs.Progress.{line_of as line_of_command, percent as percent_of};

@@ -1,7 +1,7 @@
 -- Connections that were served, and others after them.
 use Rattle.std.proofs.Common.{◌≡◌, ◌≤◌, ◌+◌, ℕ, List, [], ◌∷◌, ◌++◌, Option, Some, Result, Ok, Err, refl, sym, ap, subst, ◌⊎◌, inl, inr, ◌∙◌, append-nil, length-append, arith}
 use Rattle.std.proofs.lemmas.Grind.{flat_map-append}
-use Rattle.std.proofs.lemmas.List.Elements.{All-append, All-contains, All-nil, All-weaker}
+use Rattle.std.proofs.lemmas.List.Elements.{All-append, All-cons, All-contains, All-nil, All-weaker}
 use Rattle.std.specs.Prelude.{All, Contains, length}
 use Rattle.keep.specs.Book.{Book, HasItsFiles}
 use Rattle.keep.specs.Keeping.{HasBodies, NoCollision}
@@ -13,12 +13,13 @@ use Rattle.queue.specs.Steps.{Does, Lasts, Reads}
 use Rattle.history.specs.declared.fault.Fault.{Fault}
 use Rattle.history.proofs.Kept.{stands_kept}
 use Rattle.keep.proofs.ReadLemmas.{lasts_itself, lasts_more, reads_none}
+use Rattle.rules.specs.Values.{ConfigValue}
 use Rattle.history.proofs.Reopening.{opens_itself}
 use Rattle.history.proofs.Runs.{IsFaithful-front, IsFaithful-rest, IsRun-append}
 use Rattle.texts.proofs.Pairs.{pairs_append, pairs_none}
 use Rattle.desk.specs.Calls.{call_wanted}
-use Rattle.desk.specs.Connections.{Visit, visit, visits, AllWent, AreServed, HasServed, IsLeftAmong, IsLeftIn, IsServed, IsAt, IsNoLater, NeverFall, behind, calls_in, calls_of_course, outcomes_in, outcomes_of_course}
-use Rattle.desk.specs.Exchange.{Course, Silent, TurnedAway, Short, Broken, Called, Leaves, LeavesCourse}
+use Rattle.desk.specs.Connections.{Visit, visit, visits, AllWent, AreServed, HasServed, IsByLimit, IsLeftAmong, IsLeftIn, IsServed, IsAt, IsNoLater, NeverFall, behind, calls_in, calls_of_course, outcomes_in, outcomes_of_course}
+use Rattle.desk.specs.Exchange.{Course, Silent, TurnedAway, TooLong, Short, Broken, Called, Leaves, LeavesCourse}
 use Rattle.desk.specs.Want.{Want}
 use Rattle.desk.specs.declared.connection.Connection.{Connection}
 
@@ -41,9 +42,18 @@ module _ {K : Type 0} (g : Ghosts K) where
   pub at_of : (moment : ℕ) (before after : K) (course : Course) → Leaves g moment before after course → IsAt moment course
   at_of moment before after Silent leaves = tt
   at_of moment before after (TurnedAway e) leaves = tt
+  at_of moment before after (TooLong want) leaves = tt
   at_of moment before after Short leaves = tt
   at_of moment before after Broken leaves = tt
   at_of moment before after (Called want body at outcome) leaves = leaves.0
+
+  limit_of : (moment : ℕ) (before after : K) (course : Course) → Leaves g moment before after course → IsByLimit (g.book before).config course
+  limit_of moment before after Silent leaves = tt
+  limit_of moment before after (TurnedAway e) leaves = tt
+  limit_of moment before after (TooLong want) leaves = leaves.0
+  limit_of moment before after Short leaves = tt
+  limit_of moment before after Broken leaves = tt
+  limit_of moment before after (Called want body at outcome) leaves = leaves.1
 
   -- if nothing happened, what was kept is kept
   still_kept : (h : History) (before after : K) → after ≡ before → IsKept (g.is_open before) (g.book before) h → IsKept (g.is_open after) (g.book after) h
@@ -54,9 +64,10 @@ module _ {K : Type 0} (g : Ghosts K) where
       → IsFaithful h (calls_in (course ∷ [])) → g.is_clean after → IsRun g.may_fail h (calls_in (course ∷ [])) (outcomes_in (course ∷ [])) (g.is_open after) (g.book after)
   one_run h moment before after Silent same kept faithful clean = still_kept h before after same kept
   one_run h moment before after (TurnedAway e) same kept faithful clean = same h kept clean
+  one_run h moment before after (TooLong want) same kept faithful clean = same.1 h kept clean
   one_run h moment before after Short same kept faithful clean = same h kept clean
   one_run h moment before after Broken same kept faithful clean = same h kept clean
-  one_run h moment before after (Called want body at outcome) (at_is, done) kept faithful clean =
+  one_run h moment before after (Called want body at outcome) (at_is, within, done) kept faithful clean =
       let does = subst (λ (m : ℕ). Does g before (call_wanted want body m) outcome after) (sym at_is) done in
       let step = does h kept faithful clean in
       (step.answered, step.kept)
@@ -67,6 +78,7 @@ module _ {K : Type 0} (g : Ghosts K) where
       → g.may_leave before left ⊎ ((left ≡ Some (book_of h)) ⊎ IsLeftIn h v course left)
   one_crash h v before after Silent leaves crash kept faithful clean left may = crash h kept faithful clean left may
   one_crash h v before after (TurnedAway e) leaves crash kept faithful clean left may = crash h kept faithful clean left may
+  one_crash h v before after (TooLong want) leaves crash kept faithful clean left may = crash h kept faithful clean left may
   one_crash h v before after Short leaves crash kept faithful clean left may = crash h kept faithful clean left may
   one_crash h v before after Broken leaves crash kept faithful clean left may = crash h kept faithful clean left may
   one_crash h v before after (Called want body at outcome) leaves crash kept faithful clean left may =
@@ -113,6 +125,8 @@ module _ {K : Type 0} (g : Ghosts K) where
       elim (among_behind h vs ws courses others left mid P went run leaves faithful) [ inl p ↦ inl p | inr is ↦ inr (inr (inr is)) ]
   among_behind h (v ∷ vs) ws (TurnedAway e ∷ courses) others left mid P (first, went) run leaves faithful =
       elim (among_behind h vs ws courses others left mid P went run leaves faithful) [ inl p ↦ inl p | inr is ↦ inr (inr (inr is)) ]
+  among_behind h (v ∷ vs) ws (TooLong want ∷ courses) others left mid P (first, went) run leaves faithful =
+      elim (among_behind h vs ws courses others left mid P went run leaves faithful) [ inl p ↦ inl p | inr is ↦ inr (inr (inr is)) ]
   among_behind h (v ∷ vs) ws (Short ∷ courses) others left mid P (first, went) run leaves faithful =
       elim (among_behind h vs ws courses others left mid P went run leaves faithful) [ inl p ↦ inl p | inr is ↦ inr (inr (inr is)) ]
   among_behind h (v ∷ vs) ws (Broken ∷ courses) others left mid P (first, went) run leaves faithful =
@@ -120,13 +134,15 @@ module _ {K : Type 0} (g : Ghosts K) where
   among_behind h [] ws (course ∷ courses) others left mid P went run leaves faithful = absurd went
   among_behind h (v ∷ vs) ws [] others left mid P went run leaves faithful = absurd went
 
-  pub served_one : (before after : K) (v : Visit) → IsServed g v before after → AreServed g before after (v ∷ [])
-  served_one before after v served =
+  pub served_one : (before after : K) (v : Visit) → Lasts g before after → IsServed g v before after → AreServed g before after (v ∷ [])
+  served_one before after v lasts served =
       let answered = served.answered in
       let course = answered.course in
       record {
         courses = course ∷ [];
         went = (record { read = answered.read; at = at_of v.moment before after course answered.leaves; result = served.result; end_is = served.end_is; written = answered.written }, tt);
+        config = lasts.config;
+        limit = All-cons (IsByLimit (g.book before).config) course [] (limit_of v.moment before after course answered.leaves) (All-nil (IsByLimit (g.book before).config));
         run = λ h kept faithful clean. one_run h v.moment before after course answered.leaves kept faithful clean;
         crash = λ h kept faithful clean left may. elim (one_crash h v before after course answered.leaves answered.crash kept faithful clean left may) [
           | inl was ↦ inl was
@@ -139,6 +155,8 @@ module _ {K : Type 0} (g : Ghosts K) where
   served_none before after reads = record {
     courses = [];
     went = tt;
+    config = reads.lasts.config;
+    limit = All-nil (IsByLimit (g.book before).config);
     crash = λ h kept faithful clean left may. inl (reads.crash clean left may);
     run = λ h kept faithful clean. record { config = reads.lasts.config ∙ kept.config; stands = λ up. reads.same clean up ∙ kept.stands (reads.lasts.was_open clean up) };
   }
@@ -154,6 +172,8 @@ module _ {K : Type 0} (g : Ghosts K) where
       record {
         courses = cs ++ ds;
         went = AllWent-append vs cs ws ds first.went rest.went;
+        config = rest.config ∙ first.config;
+        limit = All-append (IsByLimit (g.book before).config) cs ds first.limit (subst (λ (c : ConfigValue). All (IsByLimit c) ds) first.config rest.limit);
         run = λ h kept faithful clean.
             let parts = subst (λ (xs : List Call). IsFaithful h xs) calls faithful in
             let run = first.run h kept (IsFaithful-front h (calls_in cs) (calls_in ds) parts) (clean_before clean) in

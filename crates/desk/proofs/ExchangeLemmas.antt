@@ -1,8 +1,11 @@
 -- From what was read and what the archive answered to the reply.
-use Rattle.std.proofs.Common.{◌≡◌, ◌≤◌, ◌<◌, ◌++◌, ◌∙◌, ℕ, List, [], ◌∷◌, Option, None, Some, Result, Ok, Err, IfOk, OnErr, false, length, refl, sym, ap, subst, inl, inr, arith, length-append}
-use Rattle.std.specs.Prelude.{MatchResult, ⊤}
+use Rattle.std.proofs.Common.{◌≡◌, ◌≤◌, ◌<◌, ◌++◌, ◌∙◌, ℕ, List, [], ◌∷◌, Option, None, Some, Result, Ok, Err, IfOk, OnErr, Bool, true, false, length, replicate, refl, sym, ap, subst, inl, inr, arith, length-append}
+use Rattle.std.specs.Prelude.{MatchResult, ⊤, ◌||◌, nat_le, nat_lt}
 use Rattle.std.specs.Io.KnownBytes.{Consumes}
-use Rattle.std.proofs.KnownBytes.{Consumes-nil}
+use Rattle.std.proofs.KnownBytes.{Consumes-kept, Consumes-nil}
+use Rattle.std.proofs.lemmas.Bool.{ltb-false, ltb-true}
+use Rattle.std.proofs.lemmas.Bool.Decides.{nat_tests}
+use Rattle.std.proofs.lemmas.List.{length-replicate}
 use Rattle.keep.specs.Book.{Book}
 use Rattle.keep.specs.declared.keeper.Keeper.{Ghosts}
 use Rattle.queue.specs.Archives.{book_of}
@@ -10,24 +13,85 @@ use Rattle.queue.specs.Commands.{is_new, stored}
 use Rattle.queue.specs.Histories.{Call, Delivery, History, Reply as Answered, Stored, followed}
 use Rattle.queue.specs.Receiving.{Gave, IsAsBefore, IsReceived, IsRefusedFor, LeavesReceived}
 use Rattle.queue.specs.Steps.{Does, IsServed, LeavesCall}
+use Rattle.history.specs.Deliveries.{delivery_fault, most_named}
 use Rattle.history.specs.declared.command.Arrived.{Arrived}
 use Rattle.history.specs.declared.fault.Fault.{Fault}
 use Rattle.history.specs.declared.fault.Fault.TheVariants as fault
 use Rattle.queue.specs.declared.reading.ReaderFailed.{ReaderFailed}
+use Rattle.history.proofs.Limits.{named_least}
 use Rattle.history.proofs.Received.{refused_does}
 use Rattle.desk.specs.Answer.{refusal_message}
 use Rattle.desk.specs.Calls.{call_wanted, done_message, fault_message, reception_message}
-use Rattle.desk.specs.Exchange.{Course, HasReadBehind, IsCalled, IsCarriedOut, IsHandledWith, IsLeftBehind, IsLeftBy, Leaves, LeavesBehind, LeavesCourse, LeavesOr, MayHaveCome, Silent, TurnedAway, Short, Broken, Called, reply_of}
+use Rattle.desk.specs.Exchange.{Course, HasReadBehind, IsCalled, IsCarriedOut, IsHandledWith, IsLeftBehind, IsLeftBy, KeepsLimit, Leaves, LeavesBehind, LeavesCourse, LeavesOr, MayHaveCome, Silent, TurnedAway, TooLong, Short, Broken, Called, reply_of}
 use Rattle.desk.specs.Incoming.{HasHead, IsRefused, ReadsBeginning, ReadsUpTo}
 use Rattle.desk.specs.Message.{message_of}
 use Rattle.desk.specs.Reply.{Message}
 use Rattle.desk.specs.Request.{Received, body_length, refused}
-use Rattle.desk.specs.Want.{Want, delivery}
+use Rattle.desk.specs.Want.{Want, may_ask, delivery, queue_run, copying, fetching, waiting_list, cleaning, verdict_list, removing, promoting}
 use Rattle.desk.specs.declared.head.Refusal.{Refusal}
 use Rattle.desk.specs.declared.head.Refusal.TheVariants.{BadRequest, NotFound, MethodNotAllowed, LengthRequired, PayloadTooLarge, HeadTooLarge, NotImplemented, OutOfMemory}
 use Rattle.desk.specs.declared.reply.Reply.{Reply}
 use Rattle.desk.proofs.RequestLemmas.{read_behind, reads_behind, received_whole}
+use Rattle.rules.specs.Values.{ConfigValue}
+use Rattle.sums.specs.FileNames.{is_file_name}
 use Rattle.sums.specs.Lines.{most_size}
+
+none_within : (n most : ℕ) → n ≡ 0 → n ≤ most
+none_within n most none = omega (arith, none)
+
+-- what has no body is within the limit
+keeps_limit : (config : ConfigValue) (want : Want) → body_length want ≡ 0 → KeepsLimit config want
+keeps_limit config (delivery name n) none = none_within n (most_named config name) none
+keeps_limit config queue_run none = tt
+keeps_limit config (copying a b c) none = tt
+keeps_limit config (fetching p k) none = tt
+keeps_limit config waiting_list none = tt
+keeps_limit config cleaning none = tt
+keeps_limit config verdict_list none = tt
+keeps_limit config (removing a b) none = tt
+keeps_limit config (promoting a b) none = tt
+
+-- a number is within a limit if it can not be above it
+pub within_limit : (most n : ℕ) → (most < n → ⊥) → n ≤ most
+within_limit most n above = by_test (nat_lt most n) refl
+  where
+    by_test : (b : Bool) → nat_lt most n ≡ b → n ≤ most
+    by_test true is = absurd (above (ltb-true most n is))
+    by_test false is = ltb-false most n is
+
+-- a body above the limit comes under the name of a file, and is refused for its size
+too_large : (config : ConfigValue) (name : List ℕ) (n moment : ℕ) (e : Fault) → (is_file_name name || nat_le n most_size) ≡ true → most_named config name < n
+    → ((body : List ℕ) → length body ≡ n → delivery_fault config name body moment ≡ Some e) → e ≡ fault.TooLarge
+unfolding delivery_fault
+too_large config name n moment e asked large is = named (is_file_name name) refl
+  where
+    none : ℕ
+    none = 0
+
+    zeros : List ℕ
+    zeros = replicate n none
+
+    sized : length zeros ≡ n
+    sized = length-replicate n none
+
+    over : nat_lt (most_named config name) (length zeros) ≡ true
+    over = grind (arith, nat_tests, sized, large)
+
+    least : most_size ≤ most_named config name
+    least = named_least config name
+
+    under : nat_le n most_size ≡ false
+    under = grind (arith, nat_tests, large, least)
+
+    told : is_file_name name ≡ true → delivery_fault config name zeros moment ≡ Some fault.TooLarge
+    told good = rw (good, over) refl
+
+    same : {X : Type 0} (a b : X) → Some a ≡ Some b → a ≡ b
+    same a b is = cc
+
+    named : (b : Bool) → is_file_name name ≡ b → e ≡ fault.TooLarge
+    named true good = same e fault.TooLarge (sym (is zeros sized) ∙ told good)
+    named false bad = let none : (false || false) ≡ true = rw (bad, under) at asked in absurd (cc)
 
 -- if the bytes of a reader are unknown after some bytes, they were unknown before them
 unknown_before : (old mid : Option (List ℕ)) (front : List ℕ) → Consumes old mid front → mid ≡ None → old ≡ None
@@ -46,6 +110,7 @@ come_before old mid front (TurnedAway PayloadTooLarge) read may = absurd may
 come_before old mid front (TurnedAway HeadTooLarge) read may = absurd may
 come_before old mid front (TurnedAway NotImplemented) read may = absurd may
 come_before old mid front (TurnedAway OutOfMemory) read may = absurd may
+come_before old mid front (TooLong want) read may = unknown_before old mid front read may
 come_before old mid front Silent read may = absurd may
 come_before old mid front (Called want body at outcome) read may = absurd may
 
@@ -87,6 +152,7 @@ module _ {K : Type 0} (g : Ghosts K) where
     pub crash_behind : (course : Course) → HasReadBehind mid new want course → LeavesBehind g mid new want moment before after course → LeavesCourse g old new moment before after course
     crash_behind Silent read leaves = none_told Silent leaves
     crash_behind (TurnedAway e) read leaves = none_told (TurnedAway e) leaves
+    crash_behind (TooLong other) read leaves = none_told (TooLong other) leaves
     crash_behind Short read leaves = none_told Short leaves
     crash_behind Broken read leaves = none_told Broken leaves
     crash_behind (Called other body at (Ok reply)) read leaves = leaves
@@ -154,7 +220,7 @@ module _ {K : Type 0} (g : Ghosts K) where
   without_body old before after want moment m none called = record {
     course = Called want [] moment called.outcome;
     read = (refl, sym none, Consumes-nil old);
-    leaves = (refl, called.done);
+    leaves = (refl, keeps_limit (g.book before).config want none, called.done);
     crash = called_leaves old before after want moment called.outcome none called.crash;
     reply = ap Some (sym called.message_is);
   }
@@ -162,12 +228,12 @@ module _ {K : Type 0} (g : Ghosts K) where
   module _ (old new : Option (List ℕ)) (before after : K) (name : List ℕ) (n moment : ℕ) where
     -- a delivery that was done
     pub received_done : (arrived : Arrived) (m : Message) → ((k : K) (left : Option Book) → g.is_clean k → g.is_open k → g.may_leave k left → left ≡ Some (g.book k))
-        → IsServed g after (stored (Ok arrived)) → IsReceived g old new name n moment before after (Ok arrived) → m ≡ done_message false (Stored (is_new arrived))
-        → IsCarriedOut g old new before after (delivery name n) moment (Some m)
-    received_done arrived m settled served h told = record {
+        → IsServed g after (stored (Ok arrived)) → IsReceived g old new name n moment before after (Ok arrived) → n ≤ most_named (g.book before).config name
+        → m ≡ done_message false (Stored (is_new arrived)) → IsCarriedOut g old new before after (delivery name n) moment (Some m)
+    received_done arrived m settled served h within told = record {
       course = Called (delivery name n) h.0 moment (Ok (Stored (is_new arrived)));
       read = (refl, h.1.1, h.1.0);
-      leaves = (refl, h.2);
+      leaves = (refl, within, h.2);
       crash = done_leaves before after (Delivery name h.0 moment) (Stored (is_new arrived)) settled h.2 served;
       reply = ap Some (sym told);
     }
@@ -193,57 +259,64 @@ module _ {K : Type 0} (g : Ghosts K) where
         ])
       ]
 
-    -- a delivery whose whole body was read, and that is refused by its name, its body or its moment
-    refused_whole : (e : Fault) → LeavesReceived g old new name n moment before after → n ≤ most_size → IsRefusedFor old new name n moment e × IsAsBefore g before after → IsCarriedOut g old new before after (delivery name n) moment (Some (fault_message e))
-    refused_whole e leaves small h = elim h.0 [
+    -- a delivery that is refused by its name, its body or its moment: its whole body was read, or it is too large
+    refused_whole : (e : Fault) → LeavesReceived g old new name n moment before after → may_ask (delivery name n) ≡ true → IsRefusedFor (g.book before).config old new name n moment e × IsAsBefore g before after
+        → IsCarriedOut g old new before after (delivery name n) moment (Some (fault_message e))
+    refused_whole e leaves asked h = elim h.0 [
       | inl whole ↦ record {
         course = Called (delivery name n) whole.0 moment (Err e);
         read = (refl, whole.1.1, whole.1.0);
-        leaves = (refl, refused_does g old new name n moment before after whole.0 e whole.3 h.1);
+        leaves = (refl, whole.2, refused_does g old new name n moment before after whole.0 e whole.3 h.1);
         crash = left_refused leaves whole.0;
         reply = refl;
       }
-      | inr large ↦ absurd (omega (arith, large.0, small))
+      | inr large ↦ record {
+        course = TooLong (delivery name n);
+        read = (refl, large.1);
+        leaves = (large.0, h.1);
+        crash = left_behind leaves [] (old ≡ None) (λ body gave. unknown_of old new n body [] gave.0 gave.1 (Consumes-kept old old new [] (Consumes-nil old) large.1) (omega (arith, large.0)));
+        reply = ap (λ f. Some (fault_message f)) (sym (too_large (g.book before).config name n moment e asked large.0 large.2));
+      }
     ]
 
     -- a delivery that was refused
-    pub received_not : (e : Fault) → LeavesReceived g old new name n moment before after → n ≤ most_size → IsReceived g old new name n moment before after (Err e) → IsCarriedOut g old new before after (delivery name n) moment (reception_message e)
-    received_not fault.OutOfMemory leaves small h = record {
+    pub received_not : (e : Fault) → LeavesReceived g old new name n moment before after → may_ask (delivery name n) ≡ true → IsReceived g old new name n moment before after (Err e) → IsCarriedOut g old new before after (delivery name n) moment (reception_message e)
+    received_not fault.OutOfMemory leaves asked h = record {
       course = Short;
       read = record { front = h.0.front; read = h.0.read; short = h.0.short };
       leaves = h.1;
       crash = left_behind leaves [] ⊤ (λ body gave. tt);
       reply = refl;
     }
-    received_not (fault.Keeper own) leaves small h = record {
+    received_not (fault.Keeper own) leaves asked h = record {
       course = Short;
       read = record { front = h.2.gave.front; read = h.2.gave.read; short = h.2.gave.short };
       leaves = h.3;
       crash = left_behind leaves [] ⊤ (λ body gave. tt);
       reply = refl;
     }
-    received_not fault.Ended leaves small h = record {
+    received_not fault.Ended leaves asked h = record {
       course = TurnedAway BadRequest;
       read = (h.0.front, h.0.read, h.0.short, h.0.end);
       leaves = h.1;
       crash = left_behind leaves [] (old ≡ None) (λ body gave. unknown_of old new n body h.0.front gave.0 gave.1 h.0.read h.0.short);
       reply = refl;
     }
-    received_not fault.ReaderFailed leaves small h = record {
+    received_not fault.ReaderFailed leaves asked h = record {
       course = Broken;
       read = record { front = h.0.front; read = h.0.read; short = omega (arith, h.0.short) };
       leaves = h.1;
       crash = left_behind leaves [] (old ≡ None) (λ body gave. unknown_of old new n body h.0.front gave.0 gave.1 h.0.read h.0.short);
       reply = refl;
     }
-    received_not fault.BadName leaves small h = refused_whole fault.BadName leaves small h
-    received_not fault.TooLarge leaves small h = refused_whole fault.TooLarge leaves small h
-    received_not (fault.Record own) leaves small h = refused_whole (fault.Record own) leaves small h
-    received_not fault.Moment leaves small h = refused_whole fault.Moment leaves small h
-    received_not fault.UnknownSuite leaves small h = refused_whole fault.UnknownSuite leaves small h
-    received_not fault.SameSuite leaves small h = refused_whole fault.SameSuite leaves small h
-    received_not fault.NothingToCopy leaves small h = refused_whole fault.NothingToCopy leaves small h
-    received_not fault.NothingToRemove leaves small h = refused_whole fault.NothingToRemove leaves small h
+    received_not fault.BadName leaves asked h = refused_whole fault.BadName leaves asked h
+    received_not fault.TooLarge leaves asked h = refused_whole fault.TooLarge leaves asked h
+    received_not (fault.Record own) leaves asked h = refused_whole (fault.Record own) leaves asked h
+    received_not fault.Moment leaves asked h = refused_whole fault.Moment leaves asked h
+    received_not fault.UnknownSuite leaves asked h = refused_whole fault.UnknownSuite leaves asked h
+    received_not fault.SameSuite leaves asked h = refused_whole fault.SameSuite leaves asked h
+    received_not fault.NothingToCopy leaves asked h = refused_whole fault.NothingToCopy leaves asked h
+    received_not fault.NothingToRemove leaves asked h = refused_whole fault.NothingToRemove leaves asked h
 
   module _ (old new : Option (List ℕ)) (before after : K) (want : Want) (moment : ℕ) where
     -- the reply to it
@@ -257,6 +330,7 @@ module _ {K : Type 0} (g : Ghosts K) where
         → ReadsUpTo old new (body_length want) × IsAsBefore g before after × LeavesBehind g old new want moment before after Broken
     broken Silent none read leaves crash = absurd read
     broken (TurnedAway e) none read leaves crash = absurd (cc)
+    broken (TooLong other) none read leaves crash = absurd (cc)
     broken Short none read leaves crash = absurd (cc)
     broken Broken none read leaves crash = (read, leaves, crash)
     broken (Called other body at outcome) none read leaves crash = absurd (cc)

@@ -10,4 +10,5 @@ pub mod WantedLemmas
 pub mod UniqueLemmas
 pub mod ReplyLemmas
 pub mod ExchangeLemmas
+pub mod FileLemmas
 pub mod ConnectionLemmas

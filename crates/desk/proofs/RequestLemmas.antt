@@ -1,13 +1,13 @@
 -- From what was read to what a connection asks for.
 use Rattle.std.proofs.Common.{◌≡◌, ℕ, ◌<◌, List, [], ◌++◌, Option, None, Some, Ok, Err, length, false, refl, sym, ap, subst, ◌∙◌, inl, inr, append-nil}
 use Rattle.std.specs.Io.KnownBytes.{Consumes, IsAtEnd}
-use Rattle.std.proofs.KnownBytes.{Consumes-trans}
+use Rattle.std.proofs.KnownBytes.{Consumes-kept, Consumes-trans}
 use Rattle.desk.specs.declared.head.Refusal.{Refusal}
 use Rattle.desk.specs.declared.head.Refusal.TheVariants.{BadRequest, NotFound, MethodNotAllowed, LengthRequired, PayloadTooLarge, HeadTooLarge, NotImplemented, OutOfMemory}
 use Rattle.desk.specs.Transfer.{ends_head, NotEarlier}
 use Rattle.desk.specs.Want.{Want}
 use Rattle.desk.specs.Request.{IsGiven, Received, IsFirstHead, HeadAsks, Gives, refused, asks, body_length, want_of}
-use Rattle.desk.specs.Exchange.{Course, Silent, TurnedAway, Short, Broken, Called, HasRead, HasReadBehind}
+use Rattle.desk.specs.Exchange.{Course, Silent, TurnedAway, TooLong, Short, Broken, Called, HasRead, HasReadBehind}
 use Rattle.desk.specs.Incoming.{HasHead, ReadsBeginning, ReadsUpTo, IsRefused}
 use Rattle.desk.proofs.UniqueLemmas.{head_part, body_part}
 
@@ -114,6 +114,8 @@ read_behind old mid new want (TurnedAway PayloadTooLarge) h behind = absurd behi
 read_behind old mid new want (TurnedAway HeadTooLarge) h behind = absurd behind
 read_behind old mid new want (TurnedAway NotImplemented) h behind = absurd behind
 read_behind old mid new want (TurnedAway OutOfMemory) h behind = absurd behind
+read_behind old mid new want (TooLong other) h behind = subst (λ (w : Want). HasHead old new w) (sym behind.0)
+    (record { head = h.head; read = Consumes-kept old mid new h.head h.read behind.1; first = h.first; asked = h.asked })
 read_behind old mid new want Short h behind = reads_behind old mid new h.head want h.read h.first h.asked behind
 read_behind old mid new want Broken h behind = reads_behind old mid new h.head want h.read h.first h.asked behind
 read_behind old mid new want (Called other body moment outcome) h behind =

@@ -1,7 +1,6 @@
 -- From what the checks of a head say to what it asks for.
-use Rattle.std.proofs.Common.{◌≡◌, ◌≤◌, ℕ, Bool, true, false, not, if◌then◌else◌, List, map, take, Option, None, Some, Result, Ok, Err, refl, sym, subst, ◌∙◌, inl, inr, arith, codes}
-use Rattle.std.specs.Prelude.{◌==◌, nat_le, unwrap_or}
-use Rattle.std.proofs.lemmas.Bool.{leb-true}
+use Rattle.std.proofs.Common.{◌≡◌, ℕ, Bool, true, false, not, if◌then◌else◌, List, map, take, Option, None, Some, Result, Ok, Err, refl, sym, subst, ◌∙◌, inl, inr, codes}
+use Rattle.std.specs.Prelude.{◌==◌, ◌||◌, nat_le, unwrap_or}
 use Rattle.std.specs.List.{list_any}
 use Rattle.std.specs.Str.{bytes_eq}
 use Rattle.httparse.specs.Grammar.{RequestHead}
@@ -11,8 +10,9 @@ use Rattle.httparse.specs.declared.spans.RequestSpans.{RequestSpans}
 use Rattle.desk.specs.declared.head.Refusal.{Refusal}
 use Rattle.desk.specs.declared.head.Refusal.TheVariants.{BadRequest, NotFound, MethodNotAllowed, LengthRequired, PayloadTooLarge, HeadTooLarge, NotImplemented, OutOfMemory}
 use Rattle.desk.specs.declared.routes.Route.{Route}
-use Rattle.desk.specs.Want.{◌>>=◌, Want, delivery, queue_run, copying, fetching, waiting_list, cleaning, verdict_list, removing, promoting, asked_at, content_length, is_named, is_path, method_of, pass, wanted_by, with_length}
-use Rattle.desk.specs.Request.{Gives, HeadAsks, IsHead, body_length}
+use Rattle.desk.specs.Want.{◌>>=◌, Want, delivery, queue_run, copying, fetching, waiting_list, cleaning, verdict_list, removing, promoting, asked_at, content_length, may_ask, is_named, is_path, method_of, pass, wanted_by, with_length}
+use Rattle.desk.specs.Request.{Gives, HeadAsks, IsHead}
+use Rattle.sums.specs.FileNames.{is_file_name}
 use Rattle.sums.specs.Lines.{most_size}
 
 -- what is said of a result is said of it in other words
@@ -88,23 +88,23 @@ module _ (method target : List ℕ) (fields : List (List ℕ × List ℕ)) where
   unfolding wanted_by
   all_pass e t route want a m length l = rw (e, t, ← a, ← m, ← l) refl
 
--- ---- how many bytes of body a head may ask for
+-- ---- what a head may ask for
 
 same_Ok : {X E : Type 0} (a b : X) → ◌≡◌ {A = Result X E} (Ok a) (Ok b) → a ≡ b
 same_Ok a b e = cc
 
-small_delivery : (name : List ℕ) (length : ℕ) (want : Want) (b : Bool) → nat_le length most_size ≡ b → (if b then Ok (delivery name length) else Err PayloadTooLarge) ≡ Ok want
-    → body_length want ≤ most_size
-small_delivery name length want true small is = subst (λ (w : Want). body_length w ≤ most_size) (same_Ok (delivery name length) want is) (leb-true length most_size small)
+small_delivery : (name : List ℕ) (length : ℕ) (want : Want) (b : Bool) → (is_file_name name || nat_le length most_size) ≡ b → (if b then Ok (delivery name length) else Err PayloadTooLarge) ≡ Ok want
+    → may_ask want ≡ true
+small_delivery name length want true small is = subst (λ (w : Want). may_ask w ≡ true) (same_Ok (delivery name length) want is) small
 small_delivery name length want false small is = absurd (cc)
 
-small_other : (w want : Want) (b : Bool) → body_length w ≡ 0 → (if b then Ok w else Err BadRequest) ≡ Ok want → body_length want ≤ most_size
-small_other w want true none is = subst (λ (x : Want). body_length x ≤ most_size) (same_Ok w want is) (omega (arith, none))
+small_other : (w want : Want) (b : Bool) → may_ask w ≡ true → (if b then Ok w else Err BadRequest) ≡ Ok want → may_ask want ≡ true
+small_other w want true none is = subst (λ (x : Want). may_ask x ≡ true) (same_Ok w want is) none
 small_other w want false none is = absurd (cc)
 
-small_length : (w : Want) (length : Option ℕ) (want : Want) → with_length w length ≡ Ok want → body_length want ≤ most_size
+small_length : (w : Want) (length : Option ℕ) (want : Want) → with_length w length ≡ Ok want → may_ask want ≡ true
 small_length (delivery name n) None want is = absurd (cc)
-small_length (delivery name n) (Some length) want is = small_delivery name length want (nat_le length most_size) refl is
+small_length (delivery name n) (Some length) want is = small_delivery name length want (is_file_name name || nat_le length most_size) refl is
 small_length queue_run length want is = small_other queue_run want (unwrap_or length 0 == 0) refl is
 small_length (copying a b c) length want is = small_other (copying a b c) want (unwrap_or length 0 == 0) refl is
 small_length (fetching p k) length want is = small_other (fetching p k) want (unwrap_or length 0 == 0) refl is
@@ -115,25 +115,25 @@ small_length (removing a b) length want is = small_other (removing a b) want (un
 small_length (promoting a b) length want is = small_other (promoting a b) want (unwrap_or length 0 == 0) refl is
 
 small_behind : (right : Bool) (e : Refusal) (w : Want) (length : Result (Option ℕ) Refusal) (want : Want) → (pass right e >>= (λ _. length >>= (λ n. with_length w n))) ≡ Ok want
-    → body_length want ≤ most_size
+    → may_ask want ≡ true
 small_behind false e w length want is = absurd (cc)
 small_behind true e w (Err other) want is = absurd (cc)
 small_behind true e w (Ok n) want is = small_length w n want is
 
 small_by : (path plain : Bool) (found : Result (Route × Want) Refusal) (right : Route → Bool) (length : Result (Option ℕ) Refusal) (want : Want)
     → (pass path BadRequest >>= (λ _. pass plain NotImplemented >>= (λ _. found >>= (λ f. pass (right f.0) (MethodNotAllowed (method_of f.0)) >>= (λ _. length >>= (λ n. with_length f.1 n)))))) ≡ Ok want
-    → body_length want ≤ most_size
+    → may_ask want ≡ true
 small_by false plain found right length want is = absurd (cc)
 small_by true false found right length want is = absurd (cc)
 small_by true true (Err e) right length want is = absurd (cc)
 small_by true true (Ok f) right length want is = small_behind (right f.0) (MethodNotAllowed (method_of f.0)) f.1 length want is
 
-small_wanted : (method target : List ℕ) (fields : List (List ℕ × List ℕ)) (want : Want) → wanted_by method target fields ≡ Ok want → body_length want ≤ most_size
+small_wanted : (method target : List ℕ) (fields : List (List ℕ × List ℕ)) (want : Want) → wanted_by method target fields ≡ Ok want → may_ask want ≡ true
 unfolding wanted_by
 small_wanted method target fields want is =
     small_by (is_path target) (not (list_any (is_named (codes "transfer-encoding")) fields)) (asked_at target) (λ r. bytes_eq method (method_of r)) (content_length fields) want is
 
-pub small_body : (head : List ℕ) (want : Want) → HeadAsks head (Ok want) → body_length want ≤ most_size
+pub small_body : (head : List ℕ) (want : Want) → HeadAsks head (Ok want) → may_ask want ≡ true
 small_body head want asked = elim asked [
   | inl it ↦ small_wanted it.0.method it.0.target (map name_and_value it.0.fields) want (sym it.2)
   | inr none ↦ absurd (refused_asks none.1)

@@ -38,11 +38,12 @@ done_message is_pool (Copies copies) = text_message 200 (flat_map line (map copy
 done_message is_pool (Found None) = refusal_message refusal.NotFound
 done_message is_pool (Found (Some file)) = record { status = 200; allow = None; is_binary = is_pool; body = file }
 
--- the reply to a refusal of the archive: for want of memory or a fault of its keeper it says that this cannot be stored, else it has
--- the text of the fault
+-- the reply to a refusal of the archive: for want of memory or a fault of its keeper it says that this cannot be stored, for the size of
+-- a body that it is too large, else it has the text of the fault
 abbrev pub fault_message : Fault → Message
 fault_message fault.OutOfMemory = refusal_message refusal.OutOfMemory
 fault_message (fault.Keeper cause) = refusal_message refusal.OutOfMemory
+fault_message fault.TooLarge = refusal_message refusal.PayloadTooLarge
 fault_message cause = text_message 422 (line (fault_text cause))
 
 -- the reply to an outcome

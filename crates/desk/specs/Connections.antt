@@ -8,8 +8,9 @@ use Rattle.queue.specs.Archives.{book_of}
 use Rattle.queue.specs.Histories.{Call, Reply, History, followed}
 use Rattle.queue.specs.Steps.{Lasts}
 use Rattle.history.specs.declared.fault.Fault.{Fault}
+use Rattle.rules.specs.Values.{ConfigValue}
 use Rattle.desk.specs.Calls.{call_wanted}
-use Rattle.desk.specs.Exchange.{Course, Called, HasRead, HasWritten, IsAnswered, IsLeftBy, MayHaveCome}
+use Rattle.desk.specs.Exchange.{Course, Called, TooLong, HasRead, HasWritten, IsAnswered, IsLeftBy, IsTooLong, KeepsLimit, MayHaveCome}
 use Rattle.desk.specs.Want.{Want}
 use Rattle.desk.specs.declared.connection.Connection.{Connection}
 use Rattle.desk.specs.declared.exchange.DeskFault.{DeskFault}
@@ -84,6 +85,13 @@ pub record Went (v : Visit) (course : Course) : Type 0 where
   pub end_is : v.end ≡ Some result
   pub written : HasWritten v.held v.holds course result
 
+-- The course is by the limit of this configuration: a body that was turned away for its size is above the limit, and one that came to the
+-- archive is within it.
+abbrev pub IsByLimit : ConfigValue → Course → Type 0
+IsByLimit config (TooLong want) = IsTooLong config want
+IsByLimit config (Called want body moment outcome) = KeepsLimit config want
+IsByLimit config course = ⊤
+
 -- one course for each connection, in order
 abbrev pub AllWent : List Visit → List Course → Type 0
 AllWent [] [] = ⊤
@@ -109,13 +117,16 @@ abbrev pub IsLeftAmong : History → List Visit → List Course → Option Book 
 IsLeftAmong h (v ∷ vs) (course ∷ courses) left = (left ≡ Some (book_of h)) ⊎ (IsLeftIn h v course left ⊎ IsLeftAmong (behind h course) vs courses left)
 IsLeftAmong h vs courses left = left ≡ Some (book_of h)
 
--- The connections were served in order, and each got the answer that its course says. If a history was kept before, and is faithful to
--- what they asked, the outcomes are the answers of its plain archive, each at its place, and what the longer history leaves is then kept.
+-- The connections were served in order, and each got the answer that its course says. The configuration is as before, and its limit is the
+-- one by which a body was turned away or taken. If a history was kept before, and is faithful to what they asked, the outcomes are the
+-- answers of its plain archive, each at its place, and what the longer history leaves is then kept.
 -- A crash during these connections, between two of them or after them leaves what it would have left before, or what the history leaves
 -- after the calls of the first of them, and perhaps also of the next.
 pub record AreServed {K : Type 0} (g : Ghosts K) (before after : K) (vs : List Visit) : Type 0 where
   pub courses : List Course
   pub went : AllWent vs courses
+  pub config : (g.book after).config ≡ (g.book before).config
+  pub limit : All (IsByLimit (g.book before).config) courses
   pub run : (h : History) → IsKept (g.is_open before) (g.book before) h → IsFaithful h (calls_in courses) → g.is_clean after
       → IsRun g.may_fail h (calls_in courses) (outcomes_in courses) (g.is_open after) (g.book after)
   pub crash : (h : History) → IsKept (g.is_open before) (g.book before) h → IsFaithful h (calls_in courses) → g.is_clean after

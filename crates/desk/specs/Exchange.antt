@@ -1,5 +1,5 @@
 -- One connection: what its bytes ask for, what becomes of the archive, and what is written.
-use Rattle.std.specs.Prelude.{◌≡◌, ◌<◌, ◌⊎◌, ⊤, ℕ, List, [], ◌∷◌, length, Option, Some, None, Result, Ok, Err}
+use Rattle.std.specs.Prelude.{◌≡◌, ◌<◌, ◌≤◌, ◌⊎◌, ⊤, ℕ, List, [], ◌∷◌, length, Option, Some, None, Result, Ok, Err}
 use Rattle.std.specs.Io.KnownBytes.{Appends, Consumes, IsAtEnd, Keeps}
 use Rattle.keep.specs.Book.{Book}
 use Rattle.keep.specs.declared.keeper.Keeper.{Ghosts}
@@ -8,35 +8,50 @@ use Rattle.queue.specs.Archives.{book_of}
 use Rattle.queue.specs.Histories.{Call, Reply, History, followed}
 use Rattle.queue.specs.Receiving.{IsAsBefore}
 use Rattle.queue.specs.Steps.{Does, LeavesCall}
+use Rattle.history.specs.Deliveries.{most_named}
 use Rattle.history.specs.declared.fault.Fault.{Fault}
+use Rattle.rules.specs.Values.{ConfigValue}
 use Rattle.desk.specs.Answer.{refusal_message}
 use Rattle.desk.specs.Calls.{call_wanted, outcome_message}
-use Rattle.desk.specs.Incoming.{ReadsBeginning, ReadsUpTo}
+use Rattle.desk.specs.Incoming.{HasHead, ReadsBeginning, ReadsUpTo}
 use Rattle.desk.specs.Reply.{Message, message_text}
 use Rattle.desk.specs.Request.{Received, asks, body_length, nothing, refused}
 use Rattle.desk.specs.Transfer.{AppendsBeginning}
-use Rattle.desk.specs.Want.{Want}
+use Rattle.desk.specs.Want.{Want, delivery}
 use Rattle.desk.specs.declared.exchange.DeskFault.{DeskFault}
-use Rattle.desk.specs.declared.exchange.DeskFault.TheVariants.{ReaderFailed, WriterFailed}
+use Rattle.desk.specs.declared.exchange.DeskFault.TheVariants.{ReaderFailed, WriterFailed, ArchiveFailed}
 use Rattle.desk.specs.declared.exchange.Served.{Served}
 use Rattle.desk.specs.declared.exchange.Served.TheVariants.{Nothing, Status}
 use Rattle.desk.specs.declared.head.Refusal.{Refusal}
-use Rattle.desk.specs.declared.head.Refusal.TheVariants.{BadRequest, OutOfMemory}
+use Rattle.desk.specs.declared.head.Refusal.TheVariants.{BadRequest, OutOfMemory, PayloadTooLarge}
 
--- What came of a connection. In the first four courses no command was made, and the archive is as before: no byte came; the bytes were
--- refused, or ended early; memory was short, or the keeper failed while a body came; the reader failed. In the last the archive was
--- called, at a moment, with an outcome.
+-- What came of a connection. In the first five courses no command was made, and the archive is as before: no byte came; the bytes were
+-- refused, or ended early; a body is too large, and no byte of it was read; memory was short, or the keeper failed while a body came; the
+-- reader failed. In the last the archive was called, at a moment, with an outcome.
 pub data Course : Type 0 where
   Silent : Course
   TurnedAway : (refusal : Refusal) → Course
+  TooLong : (want : Want) → Course
   Short : Course
   Broken : Course
   Called : (want : Want) → (body : List ℕ) → (moment : ℕ) → (outcome : Result Reply Fault) → Course
 
--- What was read: the part that the request uses, and no more. If memory was short or the reader failed, it is a beginning of that part.
+-- The body of what is wanted is larger than an archive with this configuration takes under its name.
+abbrev pub IsTooLong : ConfigValue → Want → Type 0
+IsTooLong config (delivery name n) = most_named config name < n
+IsTooLong config want = ⊥
+
+-- The body of what is wanted, if it has one, is no larger than an archive with this configuration takes under its name.
+abbrev pub KeepsLimit : ConfigValue → Want → Type 0
+KeepsLimit config (delivery name n) = n ≤ most_named config name
+KeepsLimit config want = ⊤
+
+-- What was read: the part that the request uses, and no more. If a body is too large, it is the head alone. If memory was short or the
+-- reader failed, it is a beginning of the part that the request uses.
 abbrev pub HasRead : Option (List ℕ) → Option (List ℕ) → Course → Type 0
 HasRead old new Silent = Received old new nothing
 HasRead old new (TurnedAway refusal) = Received old new (refused refusal)
+HasRead old new (TooLong want) = HasHead old new want
 HasRead old new Short = ReadsBeginning old new
 HasRead old new Broken = ReadsBeginning old new
 HasRead old new (Called want body moment outcome) = Received old new (asks want body)
@@ -45,6 +60,7 @@ HasRead old new (Called want body moment outcome) = Received old new (asks want 
 abbrev pub reply_of : Course → Option Message
 reply_of Silent = None
 reply_of (TurnedAway refusal) = Some (refusal_message refusal)
+reply_of (TooLong want) = Some (refusal_message PayloadTooLarge)
 reply_of Short = Some (refusal_message OutOfMemory)
 reply_of Broken = None
 reply_of (Called want body moment outcome) = Some (outcome_message want outcome)
@@ -68,9 +84,11 @@ HasWritten held holds course (Ok Nothing) = (course ≡ Silent) × Keeps held ho
 HasWritten held holds course (Ok (Status status)) = IsReplied held holds course status
 HasWritten held holds course (Err ReaderFailed) = (course ≡ Broken) × Keeps held holds
 HasWritten held holds course (Err WriterFailed) = IsCutOff held holds course
+HasWritten held holds course (Err ArchiveFailed) = IsCutOff held holds course
 
 -- What was read after the head of what is wanted: its body, or a part of it.
 abbrev pub HasReadBehind : Option (List ℕ) → Option (List ℕ) → Want → Course → Type 0
+HasReadBehind old new want (TooLong other) = (other ≡ want) × Keeps old new
 HasReadBehind old new want Short = ReadsUpTo old new (body_length want)
 HasReadBehind old new want Broken = ReadsUpTo old new (body_length want)
 HasReadBehind old new want (TurnedAway BadRequest) = (front : List ℕ) × Consumes old new front × (length front < body_length want) × IsAtEnd new
@@ -82,6 +100,7 @@ HasReadBehind old new want course = ⊥
 abbrev pub MayHaveCome : Option (List ℕ) → Course → Type 0
 MayHaveCome gave Short = ⊤
 MayHaveCome gave Broken = gave ≡ None
+MayHaveCome gave (TooLong want) = gave ≡ None
 MayHaveCome gave (TurnedAway BadRequest) = gave ≡ None
 MayHaveCome gave course = ⊥
 
@@ -118,11 +137,13 @@ module _ {K : Type 0} (g : Ghosts K) where
   LeavesBehind gave gives want moment before after (Called other body at (Err fault)) = LeavesOr before after (call_wanted other body moment ∷ []) (λ h left. IsLeftBehind h gave gives other moment left)
   LeavesBehind gave gives want moment before after course = LeavesOr before after [] (λ h left. MayHaveCome gave course × IsLeftBehind h gave gives want moment left)
 
-  -- If no byte came nothing happened. If the archive was called, the call was made at the moment that is handed in. Else what was kept is
-  -- still kept.
+  -- If no byte came nothing happened. If the archive was called, the call was made at the moment that is handed in, and its body is within
+  -- the limit of the archive's configuration. Else what was kept is still kept. A body is too large if it is above that limit.
   abbrev pub Leaves : ℕ → K → K → Course → Type 0
   Leaves moment before after Silent = after ≡ before
-  Leaves moment before after (Called want body at outcome) = (at ≡ moment) × Does g before (call_wanted want body moment) outcome after
+  Leaves moment before after (TooLong want) = IsTooLong (g.book before).config want × IsAsBefore g before after
+  Leaves moment before after (Called want body at outcome) =
+      (at ≡ moment) × KeepsLimit (g.book before).config want × Does g before (call_wanted want body moment) outcome after
   Leaves moment before after course = IsAsBefore g before after
 
   -- A request was read and carried out, and the reply is at hand.

@@ -11,6 +11,8 @@ pub mod Connections
 pub mod DeskFaults
 pub mod Exchange
 pub mod FaultText
+pub mod File
 pub mod Message
+pub mod Outgoing
 pub mod Parts
 pub mod Reply

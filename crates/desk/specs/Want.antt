@@ -18,6 +18,7 @@ use Rattle.desk.specs.declared.routes.Route.{Route}
 use Rattle.desk.specs.declared.routes.Route.TheVariants as at
 use Rattle.desk.specs.declared.head.Refusal.{Refusal}
 use Rattle.desk.specs.declared.head.Refusal.TheVariants.{BadRequest, NotFound, MethodNotAllowed, LengthRequired, PayloadTooLarge, NotImplemented}
+use Rattle.sums.specs.FileNames.{is_file_name}
 use Rattle.sums.specs.Lines.{most_size}
 
 -- what a request wants of the archive, without a delivery's body
@@ -156,10 +157,22 @@ one_length (value ∷ more ∷ rest) = Err BadRequest
 abbrev pub content_length : List (List ℕ × List ℕ) → Result (Option ℕ) Refusal
 content_length fields = one_length (map (λ f. f.1) (filter (is_named (codes "content-length")) fields))
 
+-- Whether the archive may be asked. A body of more than 4 MiB has to come under the name of a file.
+abbrev pub may_ask : Want → Bool
+may_ask (delivery name n) = is_file_name name || nat_le n most_size
+may_ask queue_run = true
+may_ask (copying a b c) = true
+may_ask (fetching p k) = true
+may_ask waiting_list = true
+may_ask cleaning = true
+may_ask verdict_list = true
+may_ask (removing a b) = true
+may_ask (promoting a b) = true
+
 -- the command with the length of its body, which only a delivery may have
 abbrev pub with_length : Want → Option ℕ → Result Want Refusal
 with_length (delivery name n) None = Err LengthRequired
-with_length (delivery name n) (Some length) = if nat_le length most_size then Ok (delivery name length) else Err PayloadTooLarge
+with_length (delivery name n) (Some length) = if is_file_name name || nat_le length most_size then Ok (delivery name length) else Err PayloadTooLarge
 with_length queue_run length = if unwrap_or length 0 == 0 then Ok queue_run else Err BadRequest
 with_length (copying a b c) length = if unwrap_or length 0 == 0 then Ok (copying a b c) else Err BadRequest
 with_length (fetching p k) length = if unwrap_or length 0 == 0 then Ok (fetching p k) else Err BadRequest

@@ -1,26 +1,27 @@
 //! One connection: its request, the call of the archive that it asks for, and the reply.
-ghost use Rattle.std.specs.Prelude.{◌≡◌, ◌≤◌, ℕ, Bool, List, Some, None, IfOk, OnErr, MatchResult, map};
-ghost use Rattle.std.specs.Option.{option_map};
+ghost use Rattle.std.specs.Prelude.{◌≡◌, ℕ, Bool, true, List, Some, None, IfOk, OnErr, MatchResult, map, string_bytes};
 ghost use Rattle.desk.specs.Answer.{text_message};
 ghost use Rattle.desk.specs.Calls.{done_message, fault_message, outcome_message, reception_message};
-ghost use Rattle.desk.specs.Exchange.{Broken, Course, HasWritten, IsAnswered, IsCarriedOut, IsHandled, LeavesBehind, LeavesCourse, reply_of};
+ghost use Rattle.desk.specs.Exchange.{Broken, Course, HasWritten, IsAnswered, IsCarriedOut, LeavesBehind, LeavesCourse, reply_of};
+ghost use Rattle.desk.specs.Outgoing.{IsFoundAs, IsOutgoing};
 ghost use Rattle.desk.specs.Incoming.{ReadsBeginning, ReadsUpTo};
 ghost use Rattle.desk.specs.Message.{message_of};
 ghost use Rattle.desk.specs.Reply.{line};
 ghost use Rattle.desk.specs.Request.{body_length, want_of};
-ghost use Rattle.desk.specs.Want.{Want, fetching};
+ghost use Rattle.desk.specs.Want.{Want, fetching, may_ask};
 ghost use Rattle.queue.specs.Answers.{copy_line};
 ghost use Rattle.queue.specs.Commands.{copies_of, counted, found, is_new, lines_of, promoted, reported};
 ghost use Rattle.queue.specs.Histories.{Stored};
 ghost use Rattle.queue.specs.Receiving.{IsAsBefore};
-ghost use Rattle.queue.specs.Steps.{Lasts};
-ghost use Rattle.sums.specs.Lines.{most_size};
+ghost use Rattle.queue.specs.Steps.{Lasts, Reads};
 
 use crate::fault_text::{FaultText, record_text};
+use crate::file::{LargeFile, is_all, is_large, send_file};
 use crate::head::{Refusal, Wanted};
 use crate::reply::{Body, Reply, write_reply};
 use crate::request::{Request, read_request};
 use crate::routes::Desk;
+use crate::transfer::WriterFailed;
 use http::StatusCode;
 use keep::Keeper;
 use queue::{Archive, Arrived, Fault, Promotion, ReaderFailed, Report};
@@ -46,6 +47,8 @@ pub enum DeskFault {
     ReaderFailed,
     /// The writer failed: what was carried out stays so, and a beginning of the reply was written.
     WriterFailed,
+    /// The archive failed after the head of a large file was written: a beginning of the reply was written, and nothing was changed.
+    ArchiveFailed,
 }
 
 impl DeskFault {
@@ -58,6 +61,7 @@ impl DeskFault {
         match self {
             DeskFault::ReaderFailed => 1,
             DeskFault::WriterFailed => 2,
+            DeskFault::ArchiveFailed => 3,
         }
     }
 }
@@ -72,16 +76,39 @@ impl fmt::Display for DeskFault {
         match self {
             DeskFault::ReaderFailed => write!(f, "H1"),
             DeskFault::WriterFailed => write!(f, "H2"),
+            DeskFault::ArchiveFailed => write!(f, "H3"),
         }
     }
 }
 
 impl Error for DeskFault {}
 
+impl From<WriterFailed> for DeskFault {
+    ghost use Rattle.std.specs.Prelude.{◌≡◌};
+    ghost use Rattle.desk.specs.declared.exchange.DeskFault.TheVariants.{WriterFailed};
+
+    ghost from_gives = { λ _ fault. fault ≡ WriterFailed };
+
+    fn from(_: WriterFailed) -> DeskFault {
+        DeskFault::WriterFailed
+    }
+}
+
+/// What a request is answered with.
+#[derive(Drop)]
+enum Outgoing {
+    /// A reply that is at hand.
+    Whole(Reply),
+    /// A large file of the pool, whose first piece is at hand.
+    Pieces(LargeFile),
+}
+
 impl Desk {
     /// Answers one connection at a moment, in seconds since 1970-01-01 00:00:00 UTC: reads the part of its bytes that the request uses,
-    /// calls the archive if that is what they ask for, and writes the reply. A delivery's body goes to the archive as it comes. The memory
-    /// that the desk needs is taken before the archive is called, so that what was carried out is never answered with a want of memory.
+    /// calls the archive if that is what they ask for, and writes the reply. A delivery's body goes to the archive as it comes. If it is
+    /// larger than the archive takes under its name, nothing of it is read and the reply is 413. The memory that the desk needs is taken
+    /// before the archive is called, so that what was carried out is never answered with a want of memory. A file of the pool of more than
+    /// 4 MiB is read and written piece by piece, and if the archive fails meanwhile the answer is `ArchiveFailed`.
     pub fn answer<K: Keeper, R: Read, W: Write>(
         &self,
         alloc: Global,
@@ -97,7 +124,8 @@ impl Desk {
         match reply_to(alloc, self, archive, reader, moment) {
             Err(_) => Err(DeskFault::ReaderFailed),
             Ok(None) => Ok(Served::Nothing),
-            Ok(Some(reply)) => send(writer, &reply),
+            Ok(Some(Outgoing::Whole(reply))) => send(writer, &reply),
+            Ok(Some(Outgoing::Pieces(file))) => send_file(alloc, archive, writer, &file),
         }
     }
 }
@@ -139,33 +167,69 @@ fn note_change(desk: &Desk, wanted: &Wanted) {
     }
 }
 
-/// Reads one request, carries it out, and has the reply.
+/// Reads one request, carries it out, and has what it is answered with.
 fn reply_to<K: Keeper, R: Read>(
     alloc: Global,
     desk: &Desk,
     archive: &mut Archive<K>,
     reader: &mut R,
     moment: u64,
-) -> Result<Option<Reply>, ReaderFailed>
+) -> Result<Option<Outgoing>, ReaderFailed>
     ensures lasts { Lasts K.Keeper archive.old.keeper archive.new.keeper }
-    ensures ok { IfOk result (λ reply. IsHandled K.Keeper (R.remaining reader.old) (R.remaining reader.new)
-        archive.old.keeper archive.new.keeper moment (option_map message_of reply)) }
+    ensures ok { IfOk result (IsOutgoing K.Keeper (R.remaining reader.old) (R.remaining reader.new)
+        archive.old.keeper archive.new.keeper moment) }
     ensures err { OnErr result (ReadsBeginning (R.remaining reader.old) (R.remaining reader.new) × IsAsBefore K.Keeper archive.old.keeper archive.new.keeper
         × LeavesCourse K.Keeper (R.remaining reader.old) (R.remaining reader.new) moment archive.old.keeper archive.new.keeper Broken) }
 {
     match read_request(alloc, desk, reader) {
         Err(fault) => Err(fault),
         Ok(Request::Nothing) => Ok(None),
-        Ok(Request::Refused(refusal)) => Ok(Some(Reply::to_refusal(refusal))),
-        Ok(Request::Asks(wanted)) => {
-            note_change(desk, &wanted);
-            let reply = carry_out(alloc, archive, &wanted, reader, moment)?;
-            Ok(Some(reply))
+        Ok(Request::Refused(refusal)) => Ok(Some(Outgoing::Whole(Reply::to_refusal(refusal)))),
+        Ok(Request::Asks(wanted)) => match pool_path(wanted) {
+            Ok(path) => Ok(Some(find_file(alloc, archive, path))),
+            Err(wanted) => {
+                note_change(desk, &wanted);
+                let reply = carry_out(alloc, archive, &wanted, reader, moment)?;
+                Ok(Some(Outgoing::Whole(reply)))
+            }
+        },
+    }
+}
+
+/// The path of the file of the pool that is wanted, or what is wanted else.
+fn pool_path(wanted: Wanted) -> Result<String, Wanted>
+    ensures { MatchResult result (λ path. want_of wanted ≡ fetching (string_bytes path) true) (λ other. other ≡ wanted) }
+{
+    match wanted {
+        Wanted::Fetch {
+            path,
+            is_pool: true,
+        } => Ok(path),
+        other => Err(other),
+    }
+}
+
+/// The file of the pool at a path: its reply, or the file itself if it is large. The first piece tells the size, and is all of a file that
+/// has no more. A file of at most 4 MiB is read whole, so that its reply is the fault if the archive fails.
+fn find_file<K: Keeper>(alloc: Global, archive: &mut Archive<K>, path: String) -> Outgoing
+    ensures reads { Reads K.Keeper archive.old.keeper archive.new.keeper }
+    ensures found { IsFoundAs K.Keeper archive.old.keeper archive.new.keeper (string_bytes path) result }
+{
+    match archive.fetch_piece(alloc, path.as_str(), 0) {
+        Err(fault) => Outgoing::Whole(fault_reply(fault)),
+        Ok(Some(first)) if is_all(&first) => {
+            Outgoing::Whole(fetch_reply(Ok(Some(first.bytes)), true))
+        }
+        Ok(Some(first)) if is_large(&first) => Outgoing::Pieces(LargeFile { path, first }),
+        Ok(_) => {
+            let fetched = archive.fetch(alloc, path.as_str());
+            Outgoing::Whole(fetch_reply(fetched, true))
         }
     }
 }
 
-/// Calls the archive, and has the reply to its outcome. The body of a delivery is read after its head, as far as the archive reads it.
+/// Calls the archive, and has the reply to its outcome. The body of a delivery is read after its head, as far as the archive reads it:
+/// not at all if it is too large.
 fn carry_out<K: Keeper, R: Read>(
     alloc: Global,
     archive: &mut Archive<K>,
@@ -173,7 +237,7 @@ fn carry_out<K: Keeper, R: Read>(
     reader: &mut R,
     moment: u64,
 ) -> Result<Reply, ReaderFailed>
-    requires { body_length (want_of wanted.now) ≤ most_size }
+    requires { may_ask (want_of wanted.now) ≡ true }
     ensures lasts { Lasts K.Keeper archive.old.keeper archive.new.keeper }
     ensures carried_out { IfOk result (λ reply. IsCarriedOut K.Keeper (R.remaining reader.old) (R.remaining reader.new)
         archive.old.keeper archive.new.keeper (want_of wanted.now) moment (Some (message_of reply))) }
@@ -284,8 +348,8 @@ fn fault_reply(fault: Fault) -> Reply
 {
     let text = match fault {
         Fault::OutOfMemory | Fault::Keeper(_) => return Reply::to_refusal(Refusal::OutOfMemory),
+        Fault::TooLarge => return Reply::to_refusal(Refusal::PayloadTooLarge),
         Fault::BadName => FaultText::whole("Q1"),
-        Fault::TooLarge => FaultText::whole("Q2"),
         Fault::Record(fault) => record_text("Q3 ", fault),
         Fault::Moment => FaultText::whole("Q5"),
         Fault::UnknownSuite => FaultText::whole("Q6"),

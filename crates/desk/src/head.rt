@@ -20,7 +20,7 @@ use httparse::spans::{EMPTY_HEADER_SPAN, HeaderSpan, RequestSpans, Span, parse_r
 use matchit::Params;
 use percent_encoding::percent_decode;
 use std::alloc::{AllocError, Global};
-use sums::MOST_SIZE;
+use sums::{MOST_SIZE, is_file_name};
 
 /// The most header fields that a head may have.
 const MAX_FIELDS: usize = 32;
@@ -347,14 +347,15 @@ fn check_method(method: &[u8], wanted: Method) -> Result<(), Refusal>
     }
 }
 
-/// The command with the length of its body, which only a delivery has.
+/// The command with the length of its body, which only a delivery has. The archive says how large a body may be under the name of a file.
+/// Under any other name a body of more than 4 MiB is refused here.
 fn with_length(wanted: Wanted, length: Option<u64>) -> Result<Wanted, Refusal>
     ensures { Gives want_of result (λ r. r ≡ with_body_length (want_of wanted) length) }
 {
     match (wanted, length) {
         (Wanted::Deliver { .. }, None) => Err(Refusal::LengthRequired),
         (Wanted::Deliver { name, .. }, Some(length)) => {
-            if length > MOST_SIZE {
+            if !is_file_name(name.as_str()) && length > MOST_SIZE {
                 return Err(Refusal::PayloadTooLarge);
             }
             Ok(Wanted::Deliver {

@@ -4,6 +4,7 @@
 pub mod connection;
 pub mod exchange;
 pub mod fault_text;
+pub mod file;
 pub mod head;
 pub mod laws;
 pub mod reply;

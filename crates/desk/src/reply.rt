@@ -2,13 +2,14 @@
 //!
 //! The texts of a reply are in the program or come from the archive, and a fault is written in parts. So a reply takes no memory, and a 422
 //! never turns into a 507.
-ghost use Rattle.std.specs.Prelude.{◌≡◌, ◌≤◌, ◌*◌, ◌^◌, false, None, [], unwrap_or, length, string_bytes, OnOk, OnErr};
+ghost use Rattle.std.specs.Prelude.{◌≡◌, ◌≤◌, ◌*◌, ◌^◌, ℕ, List, false, None, [], unwrap_or, length, string_bytes, OnOk, OnErr};
 ghost use Rattle.std.specs.List.{flat_map};
 ghost use Rattle.std.specs.Io.KnownBytes.{Appends, Keeps};
 ghost use Rattle.http.specs.StatusCode.{reason_phrase};
 ghost use Rattle.std.specs.Option.{option_map_or};
 ghost use Rattle.desk.specs.Answer.{refusal_message};
 ghost use Rattle.desk.specs.FaultText.{line_part, text_of};
+ghost use Rattle.desk.specs.File.{file_message};
 ghost use Rattle.desk.specs.Message.{message_of, body_text};
 ghost use Rattle.desk.specs.Parts.{parts_text};
 ghost use Rattle.desk.specs.Reply.{content_type, head_text, line, message_text, phrase};
@@ -93,7 +94,8 @@ pub fn write_reply<W: Write>(writer: &mut W, reply: &Reply) -> Result<(), Writer
     flush(writer)
 }
 
-fn flush<W: Write>(writer: &mut W) -> Result<(), WriterFailed>
+/// Has the writer pass on what it holds.
+pub fn flush<W: Write>(writer: &mut W) -> Result<(), WriterFailed>
     ensures { Keeps (W.contents writer.old) (W.contents writer.new) }
 {
     match writer.flush() {
@@ -115,6 +117,26 @@ fn write_head<W: Write>(writer: &mut W, reply: &Reply) -> Result<(), WriterFaile
         allow: allow_part(reply, "Allow: "),
         method: allow_method(reply),
         line_end: allow_part(reply, "\r\n"),
+    };
+    write_parts(writer, &parts)
+}
+
+/// Writes the head of the reply that has a file of the pool of this size.
+pub fn write_file_head<W: Write>(writer: &mut W, size: u64) -> Result<(), WriterFailed>
+    ensures ok { OnOk result ((body : List ℕ) → length body ≡ size
+        → Appends (W.contents writer.old) (W.contents writer.new) (head_text (file_message body))) }
+    ensures err { OnErr result ((body : List ℕ) → length body ≡ size
+        → AppendsBeginning (W.contents writer.old) (W.contents writer.new) (head_text (file_message body))) }
+{
+    let (mut status, mut length) = (Buffer::new(), Buffer::new());
+    let parts = Parts {
+        status: status.format(StatusCode::OK.as_u16()),
+        phrase: phrase_of(StatusCode::OK),
+        content_type: content_type_of(true),
+        length: length.format(size),
+        allow: "",
+        method: "",
+        line_end: "",
     };
     write_parts(writer, &parts)
 }

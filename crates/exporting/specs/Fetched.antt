@@ -1,7 +1,12 @@
 -- What an export has from the archive.
-use Rattle.std.specs.Prelude.{◌≡◌, ℕ, List, codes, Some, Ok}
+use Rattle.std.specs.Prelude.{◌≡◌, ℕ, List, codes, Option, Some, Ok}
+use Rattle.std.specs.Option.{option_map}
+use Rattle.std.specs.Io.KnownBytes.{Appends}
+use Rattle.keep.specs.Pieces.{PieceValue, piece_of_body}
 use Rattle.keep.specs.declared.keeper.Keeper.{Ghosts}
-use Rattle.queue.specs.Histories.{Lookup, Found}
+use Rattle.queue.specs.Answers.{IsKept}
+use Rattle.queue.specs.Archives.{book_of}
+use Rattle.queue.specs.Histories.{History, Lookup, Found}
 use Rattle.queue.specs.Steps.{Does}
 use Rattle.texts.specs.Indices.{path_in}
 use Rattle.exported.specs.Names.{state_name}
@@ -9,6 +14,21 @@ use Rattle.exported.specs.Names.{state_name}
 -- After each history whose book is kept, these are the bytes that its plain archive has at the path.
 abbrev pub IsFetched : {K : Type 0} (g : Ghosts K) (old : K) (path body : List ℕ) (new : K) → Type 0
 IsFetched g old path body new = Does g old (Lookup path) (Ok (Found (Some body))) new
+
+-- A keeper whose store returns what was written to it is open, and this is the first piece of the file of the pool at the path.
+abbrev pub HasFirst : {K : Type 0} (g : Ghosts K) (k : K) (path : List ℕ) (first : PieceValue) → Type 0
+HasFirst g k path first = g.is_clean k → g.is_open k × (option_map (piece_of_body 0) ((g.book k).files path) ≡ Some first)
+
+-- After each history whose book is kept, these are the bytes that its plain archive has in the pool at the path.
+abbrev pub IsFiled : {K : Type 0} (g : Ghosts K) (old : K) (path body : List ℕ) (new : K) → Type 0
+IsFiled g old path body new = (h : History) → IsKept (g.is_open old) (g.book old) h → g.is_clean new → (book_of h).files path ≡ Some body
+
+-- A writer holds what it held before, and after it the bytes that the plain archive has in the pool at the path: all of them, in their
+-- order.
+pub record IsWritten {K : Type 0} (g : Ghosts K) (old : K) (path : List ℕ) (before after : Option (List ℕ)) (new : K) : Type 0 where
+  pub body : List ℕ
+  pub filed : IsFiled g old path body new
+  pub written : g.is_clean new → Appends before after body
 
 -- The name is that of the state of a suite which has the Release that the plain archive has.
 pub record IsStateOf {K : Type 0} (g : Ghosts K) (old : K) (codename name : List ℕ) (new : K) : Type 0 where

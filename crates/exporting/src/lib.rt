@@ -26,6 +26,7 @@ mod fault;
 mod lacking;
 mod making;
 mod mending;
+mod placing;
 mod showing;
 mod states;
 mod web;

@@ -17,7 +17,7 @@ use texts::path_in;
 use tree_files::{PAGE, Wanted, add_by_hash, move_state, touch_release, write_in};
 
 /// The bytes at a path of the archive. An export asks for those that the archive has: any other path is refused as `Place`.
-pub fn body_at<K: Keeper>(
+fn body_at<K: Keeper>(
     alloc: Global,
     archive: &mut Archive<K>,
     path: &str,

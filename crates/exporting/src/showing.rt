@@ -5,30 +5,14 @@ ghost use Rattle.queue.specs.Steps.{Reads};
 
 use crate::asked::{Job, Watcher};
 use crate::fault::ExportFault;
-use crate::making::{body_at, make_state};
+use crate::making::make_state;
+use crate::placing::place_file;
 use exported::Manifest;
 use folders::Disk;
 use keep::Keeper;
 use queue::Archive;
-use suites::PoolFile;
 use tree::Step;
-use tree_files::{Standing, place, remove_left, show_state};
-
-/// Writes a file of the pool. If it is synced, the manifest may vouch for it. Else it stays one that is coming, and the next export reads
-/// it.
-fn place_file<R: Disk, K: Keeper>(
-    rt: &R,
-    archive: &mut Archive<K>,
-    job: &Job<'_, R>,
-    file: &PoolFile,
-    manifest: &mut Manifest,
-) -> Result<(), ExportFault>
-    ensures reads { Reads K.Keeper archive.old.keeper archive.new.keeper }
-{
-    let path = file.path.as_str();
-    let body = body_at(rt.alloc(), archive, path)?;
-    Ok(place(rt, job.site, file, &body, job.is_synced, manifest)?)
-}
+use tree_files::{Standing, remove_left, show_state};
 
 /// Makes the state of the suite at a position, and has the suite show it.
 fn show_suite<R: Disk, K: Keeper>(

@@ -146,7 +146,7 @@ impl<R: Disk> Folder<R> {
     }
 
     /// The fault of a call of the disk at a name in this folder.
-    fn fault_of(&self, alloc: Global, name: &str, error: &io::Error) -> FolderFault {
+    pub fn fault_of(&self, alloc: Global, name: &str, error: &io::Error) -> FolderFault {
         match self.path_of(alloc, name) {
             Ok(path) => fault_at(alloc, path.as_str(), error),
             Err(_) => FolderFault::OutOfMemory,

@@ -1,19 +1,21 @@
 //! What is made, renamed and removed in a folder.
 
+ghost use Rattle.std.specs.Prelude.{OnOk};
+ghost use Rattle.std.specs.Io.KnownBytes.{Appends};
+
 use crate::disk::Disk;
 use crate::fault::FolderFault;
 use crate::folder::{Folder, open_kind_by};
 use crate::kept::Kept;
+use std::alloc::Global;
 use std::fs::{self, File, FileTimes, OpenFile, OpenOptions};
 use std::io::{self, ErrorKind, Write};
 use std::os::unix::fs::symlink;
 use std::rt::Files;
 use std::time::SystemTime;
 
-/// Writes a file that is not there yet, and has it on the disk if that is asked.
-fn write_at<R: Disk>(rt: &R, path: &str, body: &[u8], is_synced: bool) -> io::Result<()> {
-    let mut file = File::create_new(rt, path)?;
-    file.write_all(body)?;
+/// Has an open file on the disk, if that is asked.
+fn sync_file<R: Disk>(file: &R::File, is_synced: bool) -> io::Result<()> {
     if is_synced {
         file.sync_data()?;
     }
@@ -81,6 +83,50 @@ impl<R: Disk> Folder<R> {
         Ok(fs::remove_dir(rt, place.as_str()).is_ok())
     }
 
+    /// Begins a new file with a name in this folder, which is open to be written on and has no byte yet. A file or a link that has the name
+    /// is removed before.
+    ///
+    /// Refused as `Place` if that is kept, if a folder has the name, or if the disk fails, and for want of memory.
+    pub fn begin_new(&self, rt: &R, kept: &Kept, name: &str) -> Result<R::File, FolderFault> {
+        self.remove(rt, kept, name)?;
+        let place = self.place_of(rt.alloc(), name)?;
+        let done = File::create_new(rt, place.as_str());
+        self.given(rt.alloc(), name, done)
+    }
+
+    /// Writes the next bytes on a new file of a name in this folder, which was begun.
+    ///
+    /// Refused as `Place` if the disk fails, and for want of memory.
+    pub fn write_on<W: Write>(
+        &self,
+        alloc: Global,
+        name: &str,
+        file: &mut W,
+        bytes: &[u8],
+    ) -> Result<(), FolderFault>
+        // All of these bytes come after those that were written before, and nothing else does.
+        ensures written { OnOk result (Appends (W.contents file.old) (W.contents file.new) bytes.now) }
+    {
+        match file.write_all(bytes) {
+            Ok(()) => Ok(()),
+            Err(error) => Err(self.fault_of(alloc, name, &error)),
+        }
+    }
+
+    /// Ends a new file of a name in this folder, which was written on: it is on the disk if that is asked, and is closed.
+    ///
+    /// Refused as `Place` if the disk fails, and for want of memory.
+    pub fn end_new(
+        &self,
+        alloc: Global,
+        name: &str,
+        file: R::File,
+        is_synced: bool,
+    ) -> Result<(), FolderFault> {
+        let done = sync_file::<R>(&file, is_synced);
+        self.given(alloc, name, done)
+    }
+
     /// Writes a new file with a name in this folder, and has it on the disk if that is asked. A file or a link that has the name is removed
     /// before.
     ///
@@ -93,10 +139,9 @@ impl<R: Disk> Folder<R> {
         body: &[u8],
         is_synced: bool,
     ) -> Result<(), FolderFault> {
-        self.remove(rt, kept, name)?;
-        let place = self.place_of(rt.alloc(), name)?;
-        let done = write_at(rt, place.as_str(), body, is_synced);
-        self.given(rt.alloc(), name, done)
+        let mut file = self.begin_new(rt, kept, name)?;
+        self.write_on(rt.alloc(), name, &mut file, body)?;
+        self.end_new(rt.alloc(), name, file, is_synced)
     }
 
     /// Renames what has a name in this folder to a name in another one, in the place of the file or the link that has that.

@@ -114,7 +114,7 @@ given_known bodies config a w made brought its accepted e at file within =
     let rows = no_row_applies (by_body w) (pool_in a) config w.upload accepted in
     let m = items_listed (contents_of w (pool_in a)) w.upload (component w.upload.changes) e.1 file
     (given_member config w.upload (items_of (contents_of w (pool_in a)) w.upload (component w.upload.changes)) e at) within in
-    subst (λ (f : FileWith (List ℕ)). Contains bodies f.contents) m.2 (elim (listed_contents w (pool_in a) m.0 its rows m.1).from [
+    subst (λ (f : FileWith (List ℕ)). Contains bodies f.contents) m.2 (elim (listed_contents _ w (pool_in a) m.0 its rows m.1).from [
       | inl mine ↦ brought (contents_of w (pool_in a) m.0) mine
       | inr held ↦ pool_known bodies a made (path_of w.upload.changes m.0) (contents_of w (pool_in a) m.0) held
     ])

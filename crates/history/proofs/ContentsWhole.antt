@@ -7,6 +7,7 @@ use Rattle.std.proofs.lemmas.List.{length-map}
 use Rattle.std.proofs.lemmas.Option.{same_Some}
 use Rattle.keep.specs.Book.{Candidate, body_for, is_body_of, is_complete, is_there, upload_of}
 use Rattle.keep.specs.declared.arrival.Arrival.{Arrival}
+use Rattle.sums.specs.Lines.{greatest_size}
 use Rattle.records.proofs.RecordRead.{changes_of_read}
 use Rattle.records.specs.Records.{changes_in}
 use Rattle.records.specs.Values.{ChangesValue}
@@ -55,7 +56,7 @@ from_zip_map f (x ∷ xs) p at = elim (which (x, f x) p (zip xs (map f xs)) at) 
 
 -- a record that was read has no two entries of one name
 pub read_names : (text : List ℕ) (c : ChangesValue) → result_ok (changes_in text) ≡ Some c → AllPairs (λ a b. a.name ≢ b.name) c.entries
-read_names text c h = let read = changes_of_read text c (ok (changes_in text) h) in read.made.entries.listed.names
+read_names text c h = let read = changes_of_read greatest_size text c (ok (changes_in text) h) in read.made.entries.listed.names
   where
     ok : {E : Type 0} (r : Result ChangesValue E) → result_ok r ≡ Some c → r ≡ Ok c
     ok (Ok d) e = ap Ok (same_Some d c e)

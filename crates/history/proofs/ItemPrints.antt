@@ -45,7 +45,7 @@ items-printed config a w whole accepted =
     given-printed config w.upload (items_of (contents_of w (pool_in a)) w.upload (component w.upload.changes))
     ∙ ap (λ items. map plans.printed (given config w.upload items))
     (items-same print_of (contents_of w (pool_in a)) (λ e. e.print) w.upload (component w.upload.changes)
-    (λ e listed. (listed_contents w (pool_in a) e whole rows listed).print))
+    (λ e listed. (listed_contents _ w (pool_in a) e whole rows listed).print))
 
 map-admitted_if : {X Y : Type 0} (f : X → Y) (v : Verdict) (xs : List X) → map f (admitted_if v xs) ≡ admitted_if v (map f xs)
 map-admitted_if f Accepted xs = refl

@@ -5,9 +5,10 @@ use Rattle.std.specs.FinMap.{get}
 use Rattle.std.specs.List.{list_any}
 use Rattle.std.specs.Option.{option_map_or, option_or}
 use Rattle.records.proofs.RecordRead.{dsc_of_read}
-use Rattle.records.specs.Records.{dsc_in}
+use Rattle.records.specs.Records.{dsc_in, dsc_within}
 use Rattle.records.specs.Values.{ChangesValue, DscValue}
 use Rattle.rules.specs.Judgement.{rule_rows, suite_of, suite_rows}
+use Rattle.rules.specs.Sizes.{largest}
 use Rattle.rules.specs.Values.{ConfigValue}
 use Rattle.rules.specs.Verdicts.{Row, first_row}
 use Rattle.rules.specs.declared.suite.Suite.{Suite}
@@ -15,11 +16,13 @@ use Rattle.rules.specs.declared.verdict.Verdict.{Verdict}
 use Rattle.rules.specs.declared.verdict.Verdict.TheVariants as verdict
 use Rattle.sums.proofs.Booleans.{passed}
 use Rattle.sums.proofs.Members.{there, any_false}
+use Rattle.sums.specs.Lines.{greatest_size}
 use Rattle.sums.specs.Prints.{print as print_of, same_print}
 use Rattle.sums.specs.declared.entries.Entry.{Entry}
 use Rattle.suites.proofs.AcceptedLists.{at_ok, both_listed}
 use Rattle.suites.proofs.Joining.{row_passed}
 use Rattle.suites.proofs.Prints.{same_print-equal}
+use Rattle.suites.proofs.RecordTexts.{dsc-within}
 use Rattle.suites.specs.Pool.{PoolWith}
 use Rattle.suites.specs.Upload.{UploadValue, Part, dsc_parts, entry_named}
 use Rattle.suites.specs.Verdict.{Telling, differs_from_dsc, has_bad_dsc, has_bad_listing, has_bad_sidecar, has_other_contents, is_missing_file, lacks_source_file, match_ok, path_of, upload_rows, verdict_with}
@@ -46,16 +49,16 @@ past_rules config c rest h =
     past_suite (suite_of config c) c rest (row_passed _ verdict.Unclaimed _ (λ e. absurd (omega (arith, e))) h).1
 
 -- no row of the verdicts 6 to 9 applies
-pub record NoRowApplies {C : Type 0} (tell : Telling C) (files : PoolWith C) (u : UploadValue) : Type 0 where
-  pub dsc : has_bad_dsc u ≡ false
+pub record NoRowApplies {C : Type 0} (tell : Telling C) (files : PoolWith C) (most : ℕ) (u : UploadValue) : Type 0 where
+  pub dsc : has_bad_dsc most u ≡ false
   pub sidecar : has_bad_sidecar u ≡ false
   pub missing : lacks_source_file tell files u ≡ false
   pub taken : has_other_contents tell files u ≡ false
 
-pub no_row_applies : {C : Type 0} (tell : Telling C) (files : PoolWith C) (config : ConfigValue) (u : UploadValue) → verdict_with tell files config u ≡ verdict.Accepted → NoRowApplies tell files u
+pub no_row_applies : {C : Type 0} (tell : Telling C) (files : PoolWith C) (config : ConfigValue) (u : UploadValue) → verdict_with tell files config u ≡ verdict.Accepted → NoRowApplies tell files (largest config) u
 no_row_applies tell files config u h =
-    let listing = row_passed (has_bad_listing u.changes) verdict.BadListing _ (λ e. absurd (omega (arith, e))) (past_rules config u.changes (upload_rows tell files u) h) in
-    let dsc = row_passed (has_bad_dsc u) verdict.BadDsc _ (λ e. absurd (omega (arith, e))) listing.1 in
+    let listing = row_passed (has_bad_listing u.changes) verdict.BadListing _ (λ e. absurd (omega (arith, e))) (past_rules config u.changes (upload_rows tell files (largest config) u) h) in
+    let dsc = row_passed (has_bad_dsc (largest config) u) verdict.BadDsc _ (λ e. absurd (omega (arith, e))) listing.1 in
     let sidecar = row_passed (has_bad_sidecar u) verdict.BadSidecar _ (λ e. absurd (omega (arith, e))) dsc.1 in
     let missing = row_passed (lacks_source_file tell files u) verdict.NotInPool _ (λ e. absurd (omega (arith, e))) sidecar.1 in
     let taken = row_passed (has_other_contents tell files u) verdict.OtherContents verdict.Accepted (λ e. absurd (omega (arith, e))) missing.1 in
@@ -64,13 +67,13 @@ no_row_applies tell files config u h =
 -- ---- what the .dsc lists
 
 dsc_names : (text : List ℕ) (d : DscValue) → dsc_in text ≡ Ok d → AllPairs (λ a b. a.name ≢ b.name) d.entries
-dsc_names text d h = let read = dsc_of_read text d h in read.made.entries.listed.names
+dsc_names text d h = let read = dsc_of_read greatest_size text d h in read.made.entries.listed.names
 
-good_dsc : (u : UploadValue) (f : Entry) (in_dsc : IsInDsc u f) → has_bad_dsc u ≡ false → differs_from_dsc u.changes in_dsc.part.0.name in_dsc.dsc ≡ false
+good_dsc : (most : ℕ) (u : UploadValue) (f : Entry) (in_dsc : IsInDsc u f) → has_bad_dsc most u ≡ false → differs_from_dsc u.changes in_dsc.part.0.name in_dsc.dsc ≡ false
 unfolding has_bad_dsc
-good_dsc u f s h =
-    at_ok (differs_from_dsc u.changes s.part.0.name) s.dsc (dsc_in s.part.1) s.read
-    (any_false (λ (part : Part). match_ok (dsc_in part.1) (differs_from_dsc u.changes part.0.name)) (dsc_parts u) s.part h s.part_in)
+good_dsc most u f s h =
+    dsc-within most s.part.1 s.dsc (differs_from_dsc u.changes s.part.0.name) s.read
+    (any_false (λ (part : Part). match_ok (dsc_within most part.1) (differs_from_dsc u.changes part.0.name)) (dsc_parts u) s.part h s.part_in)
 
 none_missing : {C : Type 0} (tell : Telling C) (files : PoolWith C) (u : UploadValue) (f : Entry) → IsInDsc u f → lacks_source_file tell files u ≡ false → is_missing_file tell files u.changes f ≡ false
 unfolding lacks_source_file
@@ -126,14 +129,14 @@ pool_contents w files f none h =
     in_pool w files f (get files (path_of w.upload.changes f)) refl none.found
     (not_missing (entry_named f.name w.upload.changes.entries) _ none.named h)
 
-dsc_contents : (w : WholeUpload) (files : PoolWith (List ℕ)) (f : Entry) → HasItsBodies w → NoRowApplies (by_body w) files w.upload → IsInDsc w.upload f → HasContents w files f
-dsc_contents w files f whole rows s = elim (listed_cases w f.name whole) [
+dsc_contents : (most : ℕ) (w : WholeUpload) (files : PoolWith (List ℕ)) (f : Entry) → HasItsBodies w → NoRowApplies (by_body w) files most w.upload → IsInDsc w.upload f → HasContents w files f
+dsc_contents most w files f whole rows s = elim (listed_cases w f.name whole) [
   | inl l ↦ has_brought w files f l.body l.found l.body_in
-      (l.print ∙ both_listed w.upload.changes s.part.0.name s.dsc l.entry f (good_dsc w.upload f s rows.dsc) (dsc_names s.part.1 s.dsc s.read) l.entry_in s.entry_in l.name_is)
+      (l.print ∙ both_listed w.upload.changes s.part.0.name s.dsc l.entry f (good_dsc most w.upload f s rows.dsc) (dsc_names s.part.1 s.dsc s.read) l.entry_in s.entry_in l.name_is)
   | inr n ↦ pool_contents w files f n (none_missing (by_body w) files w.upload f s rows.missing)
 ]
 
 -- the contents of each file that an accepted upload lists
-pub listed_contents : (w : WholeUpload) (files : PoolWith (List ℕ)) (e : Entry) → HasItsBodies w → NoRowApplies (by_body w) files w.upload → IsListedBy w.upload e → HasContents w files e
-listed_contents w files e whole rows (inl at) = changes_contents w files e whole at
-listed_contents w files e whole rows (inr s) = dsc_contents w files e whole rows s
+pub listed_contents : (most : ℕ) (w : WholeUpload) (files : PoolWith (List ℕ)) (e : Entry) → HasItsBodies w → NoRowApplies (by_body w) files most w.upload → IsListedBy w.upload e → HasContents w files e
+listed_contents most w files e whole rows (inl at) = changes_contents w files e whole at
+listed_contents most w files e whole rows (inr s) = dsc_contents most w files e whole rows s

@@ -3,6 +3,7 @@ pub mod Steps
 pub mod Known
 pub mod Judged
 pub mod Kept
+pub mod Limits
 pub mod StepAnswers
 pub mod ContentsMaps
 pub mod ShownPrints

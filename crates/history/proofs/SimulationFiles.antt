@@ -87,7 +87,7 @@ given_stored arrivals config a b w stored its come accepted e at file k =
     let rows = no_row_applies (by_body w) (pool_in b) config w.upload accepted in
     let m = items_listed (contents_of w (pool_in b)) w.upload (component w.upload.changes) e.1 file
     (given_member config w.upload (items_of (contents_of w (pool_in b)) w.upload (component w.upload.changes)) e at) k in
-    subst (IsStored arrivals a) m.2 (elim (listed_contents w (pool_in b) m.0 its rows m.1).from [
+    subst (IsStored arrivals a) m.2 (elim (listed_contents _ w (pool_in b) m.0 its rows m.1).from [
       | inl mine ↦ inl (come (contents_of w (pool_in b) m.0) mine)
       | inr held ↦ pool_stored arrivals a b stored (file_at (contents_of w (pool_in b)) w.upload.changes (component w.upload.changes) m.0) held
     ])

@@ -6,9 +6,12 @@ use Rattle.std.proofs.lemmas.Simd.{map-map}
 use Rattle.std.proofs.lemmas.Bool.{lt-ltb, le-ltb, ltb-false}
 use Rattle.std.proofs.lemmas.Grind.{flat_map-append}
 use Rattle.std.proofs.lemmas.List.Elements.{Contains-append_right}
-use Rattle.records.specs.Records.{changes_in}
+use Rattle.records.specs.Records.{changes_in, changes_within}
 use Rattle.records.specs.Values.{ChangesValue}
 use Rattle.records.specs.declared.fault.RecordFault.{RecordFault}
+use Rattle.records.proofs.RecordRead.{read_more_changes}
+use Rattle.rules.specs.Sizes.{largest}
+use Rattle.rules.specs.Values.{ConfigValue}
 use Rattle.keep.specs.Book.{Book, at_moment, ended, has_arrival, latest, span, text_at, unjudged, waiting_list, with_delivery}
 use Rattle.keep.specs.Keeping.{HasBodies, IsDeliverable, MayAnswer, NoCollision}
 use Rattle.keep.specs.declared.arrival.Arrival.{Arrival}
@@ -18,18 +21,19 @@ use Rattle.keep.specs.declared.fault.KeepFault.{KeepFault}
 use Rattle.keep.specs.declared.fault.KeepFault.TheVariants as keep_faults
 use Rattle.history.specs.Answers.{IsAnswer, IsFaithful, IsKept, IsStep, answer, delivery_answer, found_at, is_refused, line_on_waiting, report_line, waiting_line}
 use Rattle.history.specs.Archives.{Stands, book_of, book_from}
-use Rattle.history.specs.Deliveries.{IsKeepers, delivery_fault, fault_of_read, or_else, record_fault}
+use Rattle.history.specs.Deliveries.{IsKeepers, delivery_fault, fault_of_read, most_named, or_else, record_fault}
 use Rattle.history.specs.Fault.{of_keeper}
 use Rattle.history.specs.Histories.{Call, Delivery, QueueRun, Lookup, WaitingList, Cleaning, VerdictList, Reply, Stored, Lines, Count, Found, History, arrived, bodies_of, bodies_of_call, calls_of, counting, followed, waiting_after}
 use Rattle.history.specs.declared.fault.Fault.{Fault}
 use Rattle.history.specs.declared.fault.Fault.TheVariants.{OutOfMemory, BadName, TooLarge, Record, Keeper, Moment, UnknownSuite, SameSuite, NothingToCopy, Ended, ReaderFailed, NothingToRemove}
 use Rattle.history.proofs.Judged.{unjudged_faithful}
-use Rattle.history.proofs.Kept.{IsSame, stands_kept}
+use Rattle.history.proofs.Kept.{IsSame, stands_config, stands_kept}
 use Rattle.history.proofs.Known.{known, apart_with_empty}
+use Rattle.history.proofs.Limits.{named_greatest}
 use Rattle.history.proofs.Lists.{contains_later}
 use Rattle.history.proofs.Steps.{book_of-refused, book_of-cleaned, book_of-delivered, book_of-looked_up, book_of-waited, book_of-listed}
 use Rattle.sums.specs.FileNames.{is_changes_name, is_file_name}
-use Rattle.sums.specs.Lines.{most_size}
+use Rattle.sums.specs.Lines.{greatest_size}
 
 -- ---- refusals
 
@@ -95,7 +99,7 @@ answered_fault may_fail h call NothingToRemove is none = sym is
 
 -- ---- deliveries
 
--- no delivery is refused by its name, body and moment with a fault of the keeper
+-- no delivery is refused by the configuration, its name, body and moment with a fault of the keeper
 faults_apart : (own : KeepFault) (named large late : Bool) (read : Option Fault) → (read ≡ Some (Keeper own) → ⊥)
     → (if not named then Some BadName else (if large then Some TooLarge else or_else read (if late then Some Moment else None))) ≡ Some (Keeper own) → ⊥
 faults_apart own false large late read apart is = absurd (cc)
@@ -109,25 +113,32 @@ record_apart own true (Ok changes) is = absurd (cc)
 record_apart own true (Err fault) is = absurd (cc)
 record_apart own false read is = absurd (cc)
 
-delivery_apart : (name body : List ℕ) (moment : ℕ) (own : KeepFault) → delivery_fault name body moment ≡ Some (Keeper own) → ⊥
+delivery_apart : (config : ConfigValue) (name body : List ℕ) (moment : ℕ) (own : KeepFault) → delivery_fault config name body moment ≡ Some (Keeper own) → ⊥
 unfolding delivery_fault record_fault
-delivery_apart name body moment own is =
-    faults_apart own (is_file_name name) (nat_lt most_size (length body)) (nat_lt latest moment) (record_fault name body) (record_apart own (is_changes_name name) (changes_in body)) is
+delivery_apart config name body moment own is =
+    faults_apart own (is_file_name name) (nat_lt (most_named config name) (length body)) (nat_lt latest moment) (record_fault config name body)
+    (record_apart own (is_changes_name name) (changes_within (largest config) body)) is
+
+-- the fault is that of an equal configuration
+pub fault_under : (config other : ConfigValue) (name body : List ℕ) (moment : ℕ) (fault : Option Fault) → config ≡ other → delivery_fault config name body moment ≡ fault
+    → delivery_fault other name body moment ≡ fault
+fault_under config other name body moment fault same is = sym (ap (λ (c : ConfigValue). delivery_fault c name body moment) same) ∙ is
 
 -- the fault of a delivery is the answer
-pub refused_delivery : (may_fail : Bool) (h : History) (name body : List ℕ) (moment : ℕ) (fault : Fault) → (fault ≡ OutOfMemory) ⊎ (delivery_fault name body moment ≡ Some fault)
-    → IsAnswer may_fail h (Delivery name body moment) (Err fault)
+pub refused_delivery : (may_fail : Bool) (h : History) (config : ConfigValue) (name body : List ℕ) (moment : ℕ) (fault : Fault) → config ≡ h.opening.config
+    → (fault ≡ OutOfMemory) ⊎ (delivery_fault config name body moment ≡ Some fault) → IsAnswer may_fail h (Delivery name body moment) (Err fault)
 unfolding answer
-refused_delivery may_fail h name body moment fault (inl is) = subst (λ (f : Fault). IsAnswer may_fail h (Delivery name body moment) (Err f)) (sym is) tt
-refused_delivery may_fail h name body moment fault (inr is) =
+refused_delivery may_fail h config name body moment fault same (inl is) = subst (λ (f : Fault). IsAnswer may_fail h (Delivery name body moment) (Err f)) (sym is) tt
+refused_delivery may_fail h config name body moment fault same (inr is) =
     answered_fault may_fail h (Delivery name body moment) fault
-    (ap (λ f. delivery_answer f (not (has_arrival (counting h.opening h.steps moment) (record { name = name; body = body; moment = moment })))) is)
-    (λ own own_is. delivery_apart name body moment own (is ∙ ap (λ (f : Fault). Some f) own_is))
+    (ap (λ f. delivery_answer f (not (has_arrival (counting h.opening h.steps moment) (record { name = name; body = body; moment = moment })))) (fault_under config h.opening.config name body moment (Some fault) same is))
+    (λ own own_is. delivery_apart config name body moment own (is ∙ ap (λ (f : Fault). Some f) own_is))
 
 -- a delivery without a fault is not refused
-pub free_delivery : (h : History) (name body : List ℕ) (moment : ℕ) → delivery_fault name body moment ≡ None → is_refused h (Delivery name body moment) ≡ false
+pub free_delivery : (h : History) (config : ConfigValue) (name body : List ℕ) (moment : ℕ) → config ≡ h.opening.config → delivery_fault config name body moment ≡ None
+    → is_refused h (Delivery name body moment) ≡ false
 unfolding is_refused
-free_delivery h name body moment none = ap (λ (f : Option Fault). is_some f) none
+free_delivery h config name body moment same none = ap (λ (f : Option Fault). is_some f) (fault_under config h.opening.config name body moment None same none)
 
 none_of : (named large late : Bool) (read : Option Fault)
     → (if not named then Some BadName else (if large then Some TooLarge else or_else read (if late then Some Moment else None))) ≡ None
@@ -142,15 +153,20 @@ read_of true (Ok changes) is named = (changes, refl)
 read_of true (Err fault) is named = absurd (cc)
 read_of false read is named = absurd (cc)
 
+-- what is read within the limit of an archive is read within that of any archive
+record_of : (most : ℕ) (body : List ℕ) → ((c : ChangesValue) × changes_within most body ≡ Ok c) → (c : ChangesValue) × changes_in body ≡ Ok c
+record_of most body read = (read.0, read_more_changes most greatest_size body read.0 (omega arith) read.1)
+
 -- a delivery that is not refused may be kept
-pub deliverable : (name body : List ℕ) (moment : ℕ) → delivery_fault name body moment ≡ None → IsDeliverable name body
+pub deliverable : (config : ConfigValue) (name body : List ℕ) (moment : ℕ) → delivery_fault config name body moment ≡ None → IsDeliverable name body
 unfolding delivery_fault record_fault
-deliverable name body moment none =
-    let parts = none_of (is_file_name name) (nat_lt most_size (length body)) (nat_lt latest moment) (record_fault name body) none in
+deliverable config name body moment none =
+    let parts = none_of (is_file_name name) (nat_lt (most_named config name) (length body)) (nat_lt latest moment) (record_fault config name body) none in
+    let within : length body ≤ most_named config name = ltb-false (most_named config name) (length body) parts.1 in
     record {
       file_name = parts.0;
-      small = ltb-false most_size (length body) parts.1;
-      a_record = read_of (is_changes_name name) (changes_in body) parts.2;
+      small = omega (arith, within, named_greatest config name);
+      a_record = λ named. record_of (largest config) body (read_of (is_changes_name name) (changes_within (largest config) body) parts.2 named);
     }
 
 delivered_last : (h : History) (name body : List ℕ) (moment : ℕ) → Contains (bodies_of (calls_of h.steps ++ Delivery name body moment ∷ [])) body
@@ -161,7 +177,7 @@ delivered_last h name body moment =
 
 -- a delivery that is done, if what the keeper says holds for all bodies without collision
 pub delivered_step : (may_fail : Bool) (h : History) (name body : List ℕ) (moment : ℕ) (is_open : Type 0) (old new : Book) (fresh : Bool)
-    → Stands old h → IsFaithful h (Delivery name body moment ∷ []) → delivery_fault name body moment ≡ None
+    → Stands old h → IsFaithful h (Delivery name body moment ∷ []) → delivery_fault old.config name body moment ≡ None
     → ((bodies : List (List ℕ)) → NoCollision bodies → HasBodies bodies old → Contains bodies body
     → fresh ≡ not (has_arrival (at_moment moment old).arrivals (record { name = name; body = body; moment = moment })))
     → ((bodies : List (List ℕ)) → NoCollision bodies → HasBodies bodies old → Contains bodies body → new ≡ with_delivery old (record { name = name; body = body; moment = moment }))
@@ -174,7 +190,7 @@ delivered_step may_fail h name body moment is_open old new fresh stands faithful
     let have : HasBodies bodies old = subst (HasBodies bodies) (sym stands) (known h (Delivery name body moment ∷ []) faithful) in
     let there : Contains bodies body = contains_later [] faithful.bodies body (faithful.delivered body (delivered_last h name body moment)) in
     record {
-      answered = sym (ap (λ f. delivery_answer f (not (has_arrival (counting h.opening h.steps moment) a))) none
+      answered = sym (ap (λ f. delivery_answer f (not (has_arrival (counting h.opening h.steps moment) a))) (fault_under old.config h.opening.config name body moment None (stands_config old h stands) none)
           ∙ ap (λ b. Ok (Stored b)) (sym (told bodies apart have there ∙ ap (λ (b : Book). not (has_arrival (at_moment moment b).arrivals a)) stands)));
       kept = stands_kept is_open new (followed h (Delivery name body moment) (Ok (Stored fresh))) (is bodies apart have there ∙ ap (λ b. with_delivery b a) stands ∙ sym (book_of-delivered h name body moment (Stored fresh)));
     }
@@ -184,7 +200,7 @@ pub stands_answered : (may_fail : Bool) (h : History) (call : Call) (reply : Rep
 stands_answered may_fail h call reply left step = subst (λ (o : Result Reply Fault). Stands left (followed h call o)) step.answered (step.kept.stands tt)
 
 pub delivered_left : (may_fail : Bool) (h : History) (name body : List ℕ) (moment : ℕ) (old : Book) (left : Option Book)
-    → Stands old h → IsFaithful h (Delivery name body moment ∷ []) → delivery_fault name body moment ≡ None
+    → Stands old h → IsFaithful h (Delivery name body moment ∷ []) → delivery_fault old.config name body moment ≡ None
     → ((bodies : List (List ℕ)) → NoCollision bodies → HasBodies bodies old → Contains bodies body → left ≡ Some (with_delivery old (record { name = name; body = body; moment = moment })))
     → left ≡ Some (book_of (followed h (Delivery name body moment) (answer h (Delivery name body moment))))
 delivered_left may_fail h name body moment old left stands faithful none is =
@@ -199,7 +215,7 @@ delivered_left may_fail h name body moment old left stands faithful none is =
 
 -- what a crash leaves of a delivery that may be kept: what the history left, or that with the delivery
 pub left_delivered : (may_fail : Bool) (h : History) (name body : List ℕ) (moment : ℕ) (was_open : Type 0) (old : Book) (left : Option Book)
-    → IsKept was_open old h → delivery_fault name body moment ≡ None
+    → IsKept was_open old h → delivery_fault old.config name body moment ≡ None
     → was_open × ((left ≡ Some old)
     ⊎ ((bodies : List (List ℕ)) → NoCollision bodies → HasBodies bodies old → Contains bodies body → left ≡ Some (with_delivery old (record { name = name; body = body; moment = moment }))))
     → (left ≡ Some (book_of h))

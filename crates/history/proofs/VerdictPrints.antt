@@ -13,6 +13,7 @@ use Rattle.keep.specs.Keeping.{NoCollision}
 use Rattle.records.specs.Records.{dsc_in}
 use Rattle.records.specs.Values.{ChangesValue, DscValue}
 use Rattle.rules.specs.Judgement.{rule_rows}
+use Rattle.rules.specs.Sizes.{largest}
 use Rattle.rules.specs.Values.{ConfigValue}
 use Rattle.rules.specs.Verdicts.{first_row}
 use Rattle.rules.specs.declared.verdict.Verdict.TheVariants as verdict
@@ -116,7 +117,7 @@ verdict-printed bodies config a w known whole =
     let u = w.upload in
     ap₂ (λ lacks other. first_row (rule_rows config u.changes
     ++ (has_bad_listing u.changes, verdict.BadListing)
-    ∷ (has_bad_dsc u, verdict.BadDsc)
+    ∷ (has_bad_dsc (largest config) u, verdict.BadDsc)
     ∷ (has_bad_sidecar u, verdict.BadSidecar)
     ∷ (lacks, verdict.NotInPool)
     ∷ (other, verdict.OtherContents)

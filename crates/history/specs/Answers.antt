@@ -116,7 +116,7 @@ removal_answer a (Some suite) name =
 
 -- what the plain archive of the history answers to the call
 unfoldable pub answer : History → Call → Result Reply Fault
-answer h (Delivery name body moment) = delivery_answer (delivery_fault name body moment)
+answer h (Delivery name body moment) = delivery_answer (delivery_fault h.opening.config name body moment)
     (not (has_arrival (counting h.opening h.steps moment) (record { name = name; body = body; moment = moment })))
 answer h (QueueRun moment) = unless_late moment (Ok (Lines (new_lines h moment)))
 answer h (Copying from to source moment) = unless_late moment
@@ -147,7 +147,7 @@ is_free_removal config suite moment = not (nat_lt latest moment) && is_some (sui
 
 -- whether a call is refused by its arguments and the configuration alone
 unfoldable pub is_refused : History → Call → Bool
-is_refused h (Delivery name body moment) = is_some (delivery_fault name body moment)
+is_refused h (Delivery name body moment) = is_some (delivery_fault h.opening.config name body moment)
 is_refused h (QueueRun moment) = nat_lt latest moment
 is_refused h (Copying from to source moment) =
     nat_lt latest moment || are_no_two (suite_named h.opening.config from) (suite_named h.opening.config to)

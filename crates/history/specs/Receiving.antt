@@ -7,13 +7,13 @@ use Rattle.keep.specs.declared.keeper.Keeper.{Ghosts}
 use Rattle.history.specs.Answers.{IsFaithful, IsKept, answer}
 use Rattle.history.specs.Archives.{book_of}
 use Rattle.history.specs.Commands.{stored}
-use Rattle.history.specs.Deliveries.{IsOfDisk, delivery_fault}
+use Rattle.rules.specs.Values.{ConfigValue}
+use Rattle.history.specs.Deliveries.{IsOfDisk, delivery_fault, most_named}
 use Rattle.history.specs.Histories.{Delivery, History, followed}
 use Rattle.history.specs.Steps.{Does, Leaves}
 use Rattle.history.specs.declared.command.Arrived.{Arrived}
 use Rattle.history.specs.declared.fault.Fault.{Fault}
 use Rattle.history.specs.declared.fault.Fault.TheVariants.{OutOfMemory, Keeper, Ended, ReaderFailed}
-use Rattle.sums.specs.Lines.{most_size}
 
 -- ---- what a reader gave
 
@@ -93,15 +93,15 @@ module _ {K : Type 0} (g : Ghosts K) (before after : K) (gave gives : Option (Li
 -- ---- the delivery
 
 -- The fault is that of the delivery. The whole body was read; or the body is too large, and nothing was read.
-abbrev pub IsRefusedFor : Option (List ℕ) → Option (List ℕ) → List ℕ → ℕ → ℕ → Fault → Type 0
-IsRefusedFor old new name n moment fault =
-    ((body : List ℕ) × Gave old new n body × (n ≤ most_size) × (delivery_fault name body moment ≡ Some fault))
-    ⊎ ((most_size < n) × Keeps old new × ((body : List ℕ) → length body ≡ n → delivery_fault name body moment ≡ Some fault))
+abbrev pub IsRefusedFor : ConfigValue → Option (List ℕ) → Option (List ℕ) → List ℕ → ℕ → ℕ → Fault → Type 0
+IsRefusedFor config old new name n moment fault =
+    ((body : List ℕ) × Gave old new n body × (n ≤ most_named config name) × (delivery_fault config name body moment ≡ Some fault))
+    ⊎ ((most_named config name < n) × Keeps old new × ((body : List ℕ) → length body ≡ n → delivery_fault config name body moment ≡ Some fault))
 
 -- The call was cut off by a fault of the keeper. It comes only if no body that begins with what was read is refused by itself.
-pub record IsCutOff (old new : Option (List ℕ)) (name : List ℕ) (n moment : ℕ) : Type 0 where
+pub record IsCutOff (config : ConfigValue) (old new : Option (List ℕ)) (name : List ℕ) (n moment : ℕ) : Type 0 where
   pub gave : GaveUpTo old new n
-  pub free : (body : List ℕ) → length body ≡ n → ((rest : List ℕ) × (body ≡ gave.front ++ rest)) → delivery_fault name body moment ≡ None
+  pub free : (body : List ℕ) → length body ≡ n → ((rest : List ℕ) × (body ≡ gave.front ++ rest)) → delivery_fault config name body moment ≡ None
 
 -- A crash left the book that the history leaves after the delivery of the body that the reader gave.
 pub record IsLeftBy (h : History) (old new : Option (List ℕ)) (name : List ℕ) (n moment : ℕ) (left : Option Book) : Type 0 where
@@ -120,10 +120,10 @@ module _ {K : Type 0} (g : Ghosts K) where
   IsReceived old new name n moment before after (Ok arrived) =
       (body : List ℕ) × Gave old new n body × Does g before (Delivery name body moment) (stored (Ok arrived)) after
   IsReceived old new name n moment before after (Err OutOfMemory) = GaveUpTo old new n × IsAsBefore before after
-  IsReceived old new name n moment before after (Err (Keeper fault)) = IsTrue g.may_fail × IsOfDisk fault × IsCutOff old new name n moment × IsAsBefore before after
+  IsReceived old new name n moment before after (Err (Keeper fault)) = IsTrue g.may_fail × IsOfDisk fault × IsCutOff (g.book before).config old new name n moment × IsAsBefore before after
   IsReceived old new name n moment before after (Err Ended) = HeldFewer old new n × IsAsBefore before after
   IsReceived old new name n moment before after (Err ReaderFailed) = GaveFewer old new n × IsAsBefore before after
-  IsReceived old new name n moment before after (Err fault) = IsRefusedFor old new name n moment fault × IsAsBefore before after
+  IsReceived old new name n moment before after (Err fault) = IsRefusedFor (g.book before).config old new name n moment fault × IsAsBefore before after
 
   -- A crash leaves what it would have left before, what the history left, or that with the body that the reader gave.
   abbrev pub LeavesReceived : (old new : Option (List ℕ)) → (name : List ℕ) → (n moment : ℕ) → (before after : K) → Type 0

@@ -16,7 +16,7 @@ pub enum Fault {
     OutOfMemory,
     /// The name is no file name.
     BadName,
-    /// The body has more than 4194304 bytes.
+    /// The body has more bytes than the archive takes under its name.
     TooLarge,
     /// The body of a .changes can not be read as one.
     Record(RecordFault),

@@ -49,7 +49,7 @@ unfolding is_complete upload_of
 complete_upload arrivals c complete read =
     let text : Entry → List ℕ = λ e. if has_text e.name then body_for arrivals e else [] in
     let each = AllPass-from_list_all (is_there arrivals) c.changes.entries complete in
-    let record_read = changes_of_read c.body c.changes read in
+    let record_read = changes_of_read _ c.body c.changes read in
     record {
       names = record_read.made.entries.listed.names;
       count = length-map c.changes.entries text;

@@ -4,6 +4,7 @@ use Rattle.std.specs.FinMap.{get}
 use Rattle.records.specs.Values.{ChangesValue}
 use Rattle.records.specs.Records.{changes_in}
 use Rattle.sums.specs.FileNames.{is_changes_name, is_file_name}
+use Rattle.sums.specs.Lines.{greatest_size}
 use Rattle.sums.specs.Prints.{print as print_of}
 use Rattle.sums.specs.declared.print.Print.{Print}
 use Rattle.suites.specs.Plan.{IsStep, applied}
@@ -27,10 +28,10 @@ pub record HasBodies (bodies : List (List ℕ)) (book : Book) : Type 0 where
   pub arrivals : (a : Arrival) → Contains book.arrivals a → Contains bodies a.body
   pub files : (path body : List ℕ) → book.files path ≡ Some body → Contains bodies body
 
--- A delivery that may be kept: a file name, a body of at most 4194304 bytes, and a record if the name is that of a .changes.
+-- A delivery that may be kept: a file name, a body of at most 1 GiB, and a record if the name is that of a .changes.
 pub record IsDeliverable (name body : List ℕ) : Type 0 where
   pub file_name : is_file_name name ≡ true
-  pub small : length body ≤ 4194304
+  pub small : length body ≤ greatest_size
   pub a_record : is_changes_name name ≡ true → (c : ChangesValue) × changes_in body ≡ Ok c
 
 -- each plan is a step from what those before it leave

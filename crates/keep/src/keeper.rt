@@ -16,12 +16,14 @@ ghost use Rattle.std.specs.Option.{option_map};
 ghost use Rattle.keep.specs.Book.{Book, amended, arrived_file, at_moment, due, ended, is_arrival_of, is_kept, latest, shown_past, span, text_at, upload_of, waiting_list};
 ghost use Rattle.keep.specs.Configured.{IsConfiguration, reconfigured};
 ghost use Rattle.keep.specs.Keeping.{Apart, Endures, HasEachBody, IsDeliverable, IsLeftDelivered, IsSound, IsWholeFor, Lasts, Leaves, MayAnswer, OverComing, Reads, Stays, TakesDelivery, TakesPiece, TellsNew, sign_of};
+ghost use Rattle.keep.specs.Pieces.{piece_of_body, piece_value};
 ghost use Rattle.sums.specs.Prints.{print as print_of};
 
 use crate::arrived::ArrivedFile;
 use crate::change::{Change, IndexText, Judgement, Waiting};
 use crate::configured::Configured;
 use crate::fault::KeepFault;
+use crate::piece::{FilePiece, piece_of};
 use crate::printing::is_kept;
 use rules::Config;
 use std::alloc::Global;
@@ -217,6 +219,27 @@ pub trait Keeper {
         ensures served { is_clean self.new → OnOk result (is_open self.new) }
         ensures file { is_clean self.new → IfOk result (λ file. option_map (λ body. body.items) file ≡ (book self.old).files path.now) }
         ensures cause { IfErr result (MayAnswer may_fail) };
+
+    /// The piece at a place, from 0, of the file of the pool at a path without a leading slash, and how many bytes the
+    /// whole file has. Each piece but the last has `PIECE_SIZE` bytes, and after the last piece none has any. A keeper that
+    /// stores pieces reads one of them alone.
+    fn file_piece(
+        &mut self,
+        alloc: Global,
+        path: &str,
+        number: u32,
+    ) -> Result<Option<FilePiece>, KeepFault>
+        ensures reads { Reads is_clean is_open faults book may_leave self.old self.new }
+        ensures served { is_clean self.new → OnOk result (is_open self.new) }
+        ensures piece { is_clean self.new → IfOk result (λ piece.
+            option_map piece_value piece ≡ option_map (piece_of_body number) ((book self.old).files path.now)) }
+        ensures cause { IfErr result (MayAnswer may_fail) }
+    {
+        match self.file(alloc, path)? {
+            Some(body) => Ok(Some(piece_of(alloc, body.as_slice(), number)?)),
+            None => Ok(None),
+        }
+    }
 
     /// The index text at a path without a leading slash.
     fn text(&mut self, alloc: Global, path: &str) -> Result<Option<Vec<u8>>, KeepFault>

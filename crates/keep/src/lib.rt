@@ -8,6 +8,7 @@ mod change;
 mod configured;
 mod fault;
 mod keeper;
+mod piece;
 mod plain;
 mod pool;
 mod printing;
@@ -20,6 +21,7 @@ pub use change::{Change, IndexText, Judgement, Step, Waiting};
 pub use configured::Configured;
 pub use fault::KeepFault;
 pub use keeper::{Keeper, PIECE_SIZE};
+pub use piece::FilePiece;
 pub use plain::PlainKeeper;
 pub use printing::{is_kept, print_of_text};
 pub use steps::{

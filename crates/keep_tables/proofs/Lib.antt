@@ -7,6 +7,7 @@ pub mod AtHandLemmas
 pub mod MomentLemmas
 pub mod FoundArrivals
 pub mod ArrivedReads
+pub mod FilePieces
 pub mod MomentReads
 pub mod AtOnceLemmas
 pub mod KeeperWords

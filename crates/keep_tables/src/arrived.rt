@@ -5,37 +5,15 @@ ghost use Rattle.std.specs.Option.{option_map};
 ghost use Rattle.keep_tables.specs.Arrived.{bytes_under, file_in, files_in, found_bytes};
 ghost use Rattle.tables.specs.Calls.{CommitsNoRows, Reads};
 ghost use Rattle.tables_meaning.specs.Calls.{ReadUndone};
-ghost use Rattle.tables_meaning.specs.Kept.{print_at};
 
 use keep::ArrivedFile;
-use sqlite::{Alter, Connection, Error, ErrorCode};
+use sqlite::{Alter, Connection, Error};
 use std::alloc::Global;
 use sums::Print;
 use tables::arrivals::{all_arrivals, arrival_at};
-use tables::bodies::{body_numbered, body_with_print};
+use tables::bodies::body_with_print;
 use tables::rows::ArrivalRow;
-use tables_bodies::read_body;
-
-/// The print of the body of a number. A body that is not there or not whole cannot be that of an arrival, and is
-/// refused.
-fn print_numbered<S: Alter>(
-    alloc: Global,
-    conn: &mut Connection<S>,
-    id: u64,
-) -> Result<Print, Error>
-    ensures idle { conn.old.in_transaction ≡ false → conn.new.in_transaction ≡ false }
-    ensures ok { Reads S.Store conn.old conn.new result (λ t print. print_at t id ≡ Some print) }
-    ensures err { ReadUndone S.Store conn.old conn.new result }
-    ensures survives { CommitsNoRows S.Store conn.old conn.new }
-{
-    let Some(found) = body_numbered(alloc, conn, id)? else {
-        return Err(Error::SqliteFailure(ErrorCode::DatabaseCorrupt));
-    };
-    let Some(print) = found.1.print else {
-        return Err(Error::SqliteFailure(ErrorCode::DatabaseCorrupt));
-    };
-    Ok(print)
-}
+use tables_bodies::{print_numbered, read_body};
 
 /// The arrival of a row with its number, without its bytes.
 fn read_file<S: Alter>(

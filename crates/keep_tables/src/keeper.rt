@@ -25,13 +25,13 @@ use crate::coming::{
 };
 use crate::configurations::take_configuration;
 use crate::reads::{
-    read_arrivals, read_arrived, read_due, read_file, read_kept, read_nothing, read_print,
-    read_text, read_waiting, show,
+    read_arrivals, read_arrived, read_due, read_file, read_file_piece, read_kept, read_nothing,
+    read_print, read_text, read_waiting, show,
 };
 use crate::text_prints::{TextPrint, known_print, note_print, renew_prints};
 use keep::{
-    ArrivedFile, Change, Configured, IndexText, Judgement, KeepFault, Keeper, LATEST, PIECE_SIZE,
-    Waiting, append_judgements, copied_judgements, dates_after, room_for_judgements,
+    ArrivedFile, Change, Configured, FilePiece, IndexText, Judgement, KeepFault, Keeper, LATEST,
+    PIECE_SIZE, Waiting, append_judgements, copied_judgements, dates_after, room_for_judgements,
 };
 use rules::Config;
 use sqlite::{Alter, Connection};
@@ -413,6 +413,20 @@ impl<S: Alter + Drop> Keeper for TableKeeper<S> {
     fn file(&mut self, alloc: Global, path: &str) -> Result<Option<Vec<u8>>, KeepFault> {
         match read_file(alloc, &mut self.conn, path) {
             Ok(file) => Ok(file),
+            Err(error) => Err(fault_of(error)),
+        }
+    }
+
+    /// A piece is read by itself, without the rest of the file.
+    #[tactic(auto, unfolding(tables_meaning::specs::Kept::book_in))]
+    fn file_piece(
+        &mut self,
+        alloc: Global,
+        path: &str,
+        number: u32,
+    ) -> Result<Option<FilePiece>, KeepFault> {
+        match read_file_piece(alloc, &mut self.conn, path, number) {
+            Ok(piece) => Ok(piece),
             Err(error) => Err(fault_of(error)),
         }
     }

@@ -5,6 +5,7 @@ ghost use Rattle.std.specs.Option.{option_map};
 ghost use Rattle.sqlite.specs.Held.{state};
 ghost use Rattle.keep.specs.Book.{arrived_file, at_moment, due, is_arrival_of, is_kept, text_at, upload_of, waiting_list};
 ghost use Rattle.keep.specs.Keeping.{sign_of};
+ghost use Rattle.keep.specs.Pieces.{piece_of_body, piece_value};
 ghost use Rattle.keep.specs.declared.change.Judgement.{Judgement};
 ghost use Rattle.sums.specs.Prints.{print as print_of};
 ghost use Rattle.suites.specs.Shelves.{ShelvesValue};
@@ -17,7 +18,7 @@ use crate::arrived::{arrived_body, arrived_files};
 use crate::shelves::read_shelves;
 use crate::text_prints::is_of_another;
 use crate::uploads::{due_uploads, waiting_uploads};
-use keep::{ArrivedFile, IndexText, Waiting, is_kept, print_of_text};
+use keep::{ArrivedFile, FilePiece, IndexText, Waiting, is_kept, print_of_text};
 use rules::Config;
 use sqlite::{Alter, Connection, Error};
 use std::alloc::Global;
@@ -25,7 +26,7 @@ use suites::{Shelves, Upload};
 use sums::Print;
 use tables::probe::probe;
 use tables::texts::select_text;
-use tables_bodies::file_body;
+use tables_bodies::{file_body, file_piece};
 
 /// The uploads that are due at the moment, in the order of judging. `seconds` says for how long arrivals count, or nothing if
 /// they count for good.
@@ -124,6 +125,25 @@ pub fn read_file<S: Alter>(
     let _settled = conn.is_autocommit();
     probe(alloc, conn)?;
     file_body(alloc, conn, path)
+}
+
+/// The piece at a place, from 0, of the file of the pool at a path.
+pub fn read_file_piece<S: Alter>(
+    alloc: Global,
+    conn: &mut Connection<S>,
+    path: &str,
+    number: u32,
+) -> Result<Option<FilePiece>, Error>
+    requires idle { conn.old.in_transaction ≡ false }
+    ensures idle { conn.new.in_transaction ≡ false }
+    ensures read { IsRead (state S.Store conn.old) (state S.Store conn.new) }
+    ensures open { IsOpenOverArchive S.Store conn.old conn.new result }
+    ensures piece { OnCleanDisk S.Store conn.old conn.new (λ old new. WithBook old.committed (λ config judged shown dates. IfOk result (λ piece. option_map piece_value piece ≡ option_map (piece_of_body number) ((book_in_database old.committed config judged shown dates).files path.now)))) }
+{
+    // For the prover alone: outside a transaction the connection has what is committed.
+    let _settled = conn.is_autocommit();
+    probe(alloc, conn)?;
+    file_piece(alloc, conn, path, number)
 }
 
 /// The text of the index at a path.

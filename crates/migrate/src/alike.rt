@@ -1,6 +1,7 @@
 //! Whether two configurations have the same suites.
 //!
-//! Values are compared and not spelling: the suites, in their order, without ValidDays, and each other field of them as it is read.
+//! Values are compared and not spelling: the suites, in their order, without ValidDays, and each other field of them as it is read. What
+//! the first paragraph says of all suites, KeepDays and MaxFileSize, is not compared.
 
 ghost use Rattle.std.specs.Prelude.{◌≡◌, ◌↔◌, map, IsTrue};
 ghost use Rattle.std.specs.Option.{option_map};
@@ -108,7 +109,7 @@ impl Compared for Suite {
     }
 }
 
-/// Whether two configurations have the same suites in the same order, but for KeepDays and ValidDays.
+/// Whether two configurations have the same suites in the same order, but for KeepDays, ValidDays and MaxFileSize.
 pub fn are_alike(config: &Config, other: &Config) -> bool
     ensures { IsTrue result ↔ AreAlike config.now other.now }
 {

@@ -23,10 +23,10 @@ use tables_changes::is_without_tables;
 use tables_meaning::fault_of;
 
 /// Makes the archive of an old book under another configuration, in a database that has no table, no index and no view. All arrivals are as
-/// of the moment, in seconds since 1970-01-01 00:00:00 UTC. The configuration has the same suites in the same order: only KeepDays and
-/// ValidDays may differ. A fault gives the connection back, and then what was committed is as before. It is `KeepFault::NoArchive` exactly
-/// if the database has an object already or a transaction is begun, and else `KeepFault::Configuration` exactly if the suites differ. A
-/// crash leaves what was there before or the whole archive.
+/// of the moment, in seconds since 1970-01-01 00:00:00 UTC. The configuration has the same suites in the same order: only KeepDays,
+/// ValidDays and MaxFileSize may differ. A fault gives the connection back, and then what was committed is as before. It is
+/// `KeepFault::NoArchive` exactly if the database has an object already or a transaction is begun, and else `KeepFault::Configuration`
+/// exactly if the suites differ. A crash leaves what was there before or the whole archive.
 pub fn migrate<S: Alter + Drop>(
     alloc: Global,
     mut to: Connection<S>,

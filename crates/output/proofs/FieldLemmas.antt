@@ -42,7 +42,7 @@ chain_there b (y ∷ before) x after it = chain_there (b || y) before x after it
 -- whether a name is each of the known ones after the first
 abbrev others : List ℕ → List Bool
 others other =
-    str_eq_ignore_ascii_case other (codes "Suite") ∷ str_eq_ignore_ascii_case other (codes "Origin") ∷ str_eq_ignore_ascii_case other (codes "Label") ∷ str_eq_ignore_ascii_case other (codes "Description") ∷ str_eq_ignore_ascii_case other (codes "Architectures") ∷ str_eq_ignore_ascii_case other (codes "Components") ∷ str_eq_ignore_ascii_case other (codes "AlsoAcceptFor") ∷ str_eq_ignore_ascii_case other (codes "Uploaders") ∷ str_eq_ignore_ascii_case other (codes "KeepDays") ∷ str_eq_ignore_ascii_case other (codes "ValidDays") ∷ []
+    str_eq_ignore_ascii_case other (codes "Suite") ∷ str_eq_ignore_ascii_case other (codes "Origin") ∷ str_eq_ignore_ascii_case other (codes "Label") ∷ str_eq_ignore_ascii_case other (codes "Description") ∷ str_eq_ignore_ascii_case other (codes "Architectures") ∷ str_eq_ignore_ascii_case other (codes "Components") ∷ str_eq_ignore_ascii_case other (codes "AlsoAcceptFor") ∷ str_eq_ignore_ascii_case other (codes "Uploaders") ∷ str_eq_ignore_ascii_case other (codes "KeepDays") ∷ str_eq_ignore_ascii_case other (codes "ValidDays") ∷ str_eq_ignore_ascii_case other (codes "MaxFileSize") ∷ []
 
 codename_known : (other : List ℕ) → str_eq_ignore_ascii_case other (codes "Codename") ≡ true → is_known other ≡ true
 unfolding is_known
@@ -120,3 +120,10 @@ valid_known other it = chain_there (str_eq_ignore_ascii_case other (codes "Coden
 
 pub valid_alike : (p : Fields) → field_named (codes "ValidDays") (filter is_known_field p) ≡ field_named (codes "ValidDays") p
 valid_alike p = named_alike (codes "ValidDays") valid_known p
+
+size_known : (other : List ℕ) → str_eq_ignore_ascii_case other (codes "MaxFileSize") ≡ true → is_known other ≡ true
+unfolding is_known
+size_known other it = chain_there (str_eq_ignore_ascii_case other (codes "Codename")) (take 10 (others other)) (str_eq_ignore_ascii_case other (codes "MaxFileSize")) (drop 11 (others other)) it
+
+pub size_alike : (p : Fields) → field_named (codes "MaxFileSize") (filter is_known_field p) ≡ field_named (codes "MaxFileSize") p
+size_alike p = named_alike (codes "MaxFileSize") size_known p

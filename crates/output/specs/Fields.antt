@@ -12,7 +12,7 @@ is_known name =
     || str_eq_ignore_ascii_case name (codes "Description") || str_eq_ignore_ascii_case name (codes "Architectures")
     || str_eq_ignore_ascii_case name (codes "Components") || str_eq_ignore_ascii_case name (codes "AlsoAcceptFor")
     || str_eq_ignore_ascii_case name (codes "Uploaders") || str_eq_ignore_ascii_case name (codes "KeepDays")
-    || str_eq_ignore_ascii_case name (codes "ValidDays")
+    || str_eq_ignore_ascii_case name (codes "ValidDays") || str_eq_ignore_ascii_case name (codes "MaxFileSize")
 
 -- the field is one that a configuration has
 abbrev pub is_known_field : FieldValue → Bool

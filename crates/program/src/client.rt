@@ -1,5 +1,7 @@
 //! The client of one connection: what it sends, and what it is sent, for as long as the connection may last.
 
+ghost use Rattle.std.specs.Prelude.{◌≡◌, ◌*◌, ◌-◌, ◌/◌};
+ghost use Rattle.std.specs.Duration.{as_nanos};
 ghost use Rattle.std.specs.Io.{ReadsAtMost, WritesAtMost};
 
 use std::alloc::Global;
@@ -17,8 +19,21 @@ pub struct Patience {
     pub silence: Duration,
     /// How long a client may go on sending after its reply.
     pub parting: Duration,
-    /// How long the whole connection may last.
+    /// How long the whole connection may last, if it moves at most `MOST_FREE` bytes.
     pub whole: Duration,
+}
+
+/// The most bytes that a connection moves without more time.
+const MOST_FREE: u64 = 4_194_304;
+
+/// The bytes for which a connection has a second more: 1 MiB.
+const MEBIBYTE: u64 = 1_048_576;
+
+/// How much longer a connection may last that has moved this number of bytes: a second for each whole MiB beyond `MOST_FREE`.
+fn longer(moved: u64) -> Duration
+    ensures { as_nanos result ≡ (moved - MOST_FREE) / MEBIBYTE * 1_000_000_000 }
+{
+    Duration::from_secs(moved.saturating_sub(MOST_FREE) / MEBIBYTE)
 }
 
 /// The most bytes of a first line that are kept.
@@ -128,18 +143,24 @@ pub struct Client<'c, R> {
     pub stream: &'c TcpStream,
     pub accepted: Instant,
     pub patience: Patience,
+    /// How many bytes the client has sent, and has been sent, so far.
+    pub moved: Cell<u64>,
     /// Whether a write has failed, or was cut short. No other is tried then: it would wait for the client once more.
     pub is_lost: Cell<bool>,
 }
 
 impl<R: Clock> Client<'_, R> {
-    /// How long the next call may wait: `most`, or what is left of the whole if that is less. Fails if nothing is left, or if the client is
-    /// lost.
+    /// Adds a number of bytes to those that were moved.
+    fn add_moved(&self, count: usize) {
+        self.moved
+            .set(self.moved.get().saturating_add(count as u64));
+    }
+
+    /// How long the next call may wait: `most`, or what is left of the whole if that is less. The whole is longer if the connection has
+    /// moved many bytes. Fails if nothing is left, or if the client is lost.
     fn wait(&self, most: Duration) -> io::Result<Duration> {
-        let left = self
-            .patience
-            .whole
-            .saturating_sub(self.accepted.elapsed(self.rt)?);
+        let whole = self.patience.whole.saturating_add(longer(self.moved.get()));
+        let left = whole.saturating_sub(self.accepted.elapsed(self.rt)?);
         if left.is_zero() || self.is_lost.get() {
             return Err(io::Error::from(io::ErrorKind::TimedOut));
         }
@@ -152,7 +173,9 @@ impl<R: Clock> Client<'_, R> {
     {
         self.stream.set_read_timeout(Some(self.wait(most)?))?;
         let mut stream = self.stream;
-        stream.read(buf)
+        let count = stream.read(buf)?;
+        self.add_moved(count);
+        Ok(count)
     }
 
     /// Writes a piece, within the patience with the client's silence. A client that does not take all of a piece in that time is lost.
@@ -163,6 +186,9 @@ impl<R: Clock> Client<'_, R> {
         self.stream.set_write_timeout(Some(wait))?;
         let mut stream = self.stream;
         let written = stream.write(piece);
+        if let Ok(count) = written {
+            self.add_moved(count);
+        }
         let is_whole = matches!(written, Ok(count) if count == piece.len());
         self.is_lost.set(!is_whole);
         written

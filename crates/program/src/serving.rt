@@ -72,9 +72,9 @@ pub fn keep_room(alloc: Global) {
 
 /// Answers `count` connections of a listener, one after the other, each as a list of it alone, at the moment, in seconds since 1970-01-01
 /// 00:00:00 UTC. A client loses its connection if its first byte does not come within 5 seconds, if it is silent for 30, or if the
-/// connection lasts for 120. A connection that fails counts, and the next is answered. If none can be accepted for now, it waits a moment
-/// and tries again, however often. It ends early if none can be accepted at all. If the keeper is shut it ends with the number of those
-/// that are left.
+/// connection lasts for 120, and one second more for each whole MiB beyond 4 that it has read or written. A connection that fails counts,
+/// and the next is answered. If none can be accepted for now, it waits a moment and tries again, however often. It ends early if none can
+/// be accepted at all. If the keeper is shut it ends with the number of those that are left.
 pub fn serve<'a, R: Clock + Files + AllocGlobal, K: Keeper>(
     rt: &R,
     archive: &mut Archive<K>,
@@ -226,6 +226,7 @@ fn answer_client<R: Clock + AllocGlobal, K: Keeper, E: Write>(
         stream: visit.stream,
         accepted: Instant::now(rt)?,
         patience: visit.patience,
+        moved: Cell::new(0),
         is_lost: Cell::new(false),
     };
     let (mut line, sent) = (FirstLine::new(rt.alloc()), Cell::new(0));

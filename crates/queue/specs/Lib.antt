@@ -2,6 +2,7 @@ pub mod Fault
 pub mod Histories
 pub mod Archives
 pub mod Answers
+pub mod Deliveries
 pub mod Steps
 pub mod Receiving
 pub mod Commands

@@ -9,6 +9,7 @@
 //! cases for them. The laws on stops are stated of what follows from either (`LeavesCall`).
 
 ghost use Rattle.std.specs.Prelude.{◌≡◌, ◌⊎◌, ◌<◌, ◌≤◌, ⊤, true, Some, None, Err, IfOk, IfErr, OnOk, OnErr, false, map};
+ghost use Rattle.std.specs.Option.{option_map};
 ghost use Rattle.history.specs.Amending.{IsPlanned, OnceAmended};
 ghost use Rattle.history.specs.Answers.{copy_line, is_free_copy, is_free_removal};
 ghost use Rattle.history.specs.Commands.{stored, reported, counted, found, copies_of, lines_of, names_given, promoted};
@@ -20,6 +21,7 @@ ghost use Rattle.history.specs.Promotions.{IsPromotionFault, promotion_fault};
 ghost use Rattle.history.specs.Removals.{removal_fault};
 ghost use Rattle.keep.specs.Configured.{configured, keeps_shown};
 ghost use Rattle.keep.specs.Keeping.{MayAnswer};
+ghost use Rattle.keep.specs.Pieces.{piece_of_body, piece_value};
 ghost use Rattle.keep.specs.declared.fault.KeepFault.TheVariants.{Configuration};
 ghost use Rattle.history.specs.Configuring.{Configures, Endures, LeavesConfigured};
 ghost use Rattle.history.specs.Steps.{Does, IsServed, IsUndone, Lasts, Leaves, LeavesDelivery, LeavesStep, Reads};
@@ -31,7 +33,7 @@ use history::{
     only_step, place_of, removal_plan, report_lines, sources_of, two_suites, verdict_lines,
     waiting_lines,
 };
-use keep::{Change, KeepFault, Keeper, LATEST, Step};
+use keep::{Change, FilePiece, KeepFault, Keeper, LATEST, Step};
 use para::Listed;
 use renewing::{PrintedText, configured, renewed_texts};
 use rules::Config;
@@ -67,7 +69,8 @@ impl<K: Keeper> Archive<K> {
 
     /// Takes a delivery of a body under a file name at a moment, in seconds since 1970-01-01 00:00:00 UTC, and says whether it is new:
     /// whether no arrival of that name and body counts at the moment. It is refused, with the lowest fault that applies, for a bad name,
-    /// a body of more than 4194304 bytes, a name that ends in `.changes` with a body that is no .changes, and a moment after 2099.
+    /// a body that is too large for the configuration (`most_named`), a name that ends in `.changes` with a body that is no .changes or
+    /// lists a file that is too large, and a moment after 2099.
     pub fn deliver(
         &mut self,
         alloc: Global,
@@ -83,11 +86,12 @@ impl<K: Keeper> Archive<K> {
         ensures err { OnErr result (IsUndone K.Keeper self.old.keeper self.new.keeper) }
         // A crash leaves what it would have left before, what the history left, or all that the call does.
         ensures crash { LeavesDelivery K.Keeper self.old.keeper name.now body.now moment self.new.keeper }
-        ensures done { IfOk result (λ _. delivery_fault name.now body.now moment ≡ None) }
-        // The fault is the one by name, body and moment, or else one of the keeper's own.
-        ensures refused { IfErr result (λ e. (delivery_fault name.now body.now moment ≡ Some e) ⊎ IsKeepers K.may_fail (delivery_fault name.now body.now moment ≡ None) e) }
+        ensures done { IfOk result (λ _. delivery_fault (K.book self.old.keeper).config name.now body.now moment ≡ None) }
+        // The fault is the one by configuration, name, body and moment, or else one of the keeper's own.
+        ensures refused { IfErr result (λ e. (delivery_fault (K.book self.old.keeper).config name.now body.now moment ≡ Some e)
+            ⊎ IsKeepers K.may_fail (delivery_fault (K.book self.old.keeper).config name.now body.now moment ≡ None) e) }
     {
-        check_delivery(alloc, name, body, moment)?;
+        check_delivery(alloc, self.keeper.config(), name, body, moment)?;
         if self.keeper.arrive(alloc, name, body, moment)? {
             Ok(Arrived::New)
         } else {
@@ -326,6 +330,24 @@ impl<K: Keeper> Archive<K> {
             Some(body) => Ok(Some(body)),
             None => Ok(self.keeper.text(alloc, path)?),
         }
+    }
+
+    /// The piece at a place, from 0, of the file of the pool at a path without a leading slash, and how many bytes the whole file has. Each
+    /// piece but the last has 65536 bytes, and after the last piece none has any. So a file is read without being held whole.
+    pub fn fetch_piece(
+        &mut self,
+        alloc: Global,
+        path: &str,
+        number: u32,
+    ) -> Result<Option<FilePiece>, Fault>
+        // The book stays as it was, and a crash leaves what it would have left before.
+        ensures reads { Reads K.Keeper self.old.keeper self.new.keeper }
+        ensures served { K.is_clean self.new.keeper → OnOk result (K.is_open self.new.keeper) }
+        ensures piece { K.is_clean self.new.keeper → IfOk result (λ piece.
+            option_map piece_value piece ≡ option_map (piece_of_body number) ((K.book self.old.keeper).files path.now)) }
+        ensures refused { IfErr result (IsKeepers K.may_fail ⊤) }
+    {
+        Ok(self.keeper.file_piece(alloc, path, number)?)
     }
 
     /// The uploads without a verdict whose .changes counts at a moment, in seconds since 1970-01-01 00:00:00 UTC. Each has a line: the

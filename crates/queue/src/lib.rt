@@ -12,6 +12,7 @@ mod run;
 mod storing;
 
 pub use archive::Archive;
+pub use delivery::most_named;
 pub use history::{
     Arrived, Command, Fault, Outcome, Promotion, Report, SourceCopy, a_book_opens_its_history,
     a_configured_book_opens_its_history, a_crash_in_lists_is_in_one_list, a_crash_is_of_a_call,

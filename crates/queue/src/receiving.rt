@@ -8,13 +8,14 @@
 ghost use Rattle.std.specs.Prelude.{◌≡◌, ◌<◌, ◌≤◌, ℕ, List, Some, true, length, IsErrAnd, OnErr};
 ghost use Rattle.std.specs.Io.KnownBytes.{Keeps};
 ghost use Rattle.history.specs.Commands.{is_new, stored};
-ghost use Rattle.history.specs.Deliveries.{delivery_fault};
+ghost use Rattle.history.specs.Deliveries.{delivery_fault, most_named as most_under};
 ghost use Rattle.history.specs.Receiving.{IsReceived, LeavesReceived};
 ghost use Rattle.history.specs.Steps.{IsServed, IsUndone, Lasts};
 ghost use Rattle.sums.specs.FileNames.{is_changes_name as is_changes_name_of, is_file_name as is_file_name_of};
 ghost use Rattle.sums.specs.Lines.{most_size};
 
 use crate::archive::Archive;
+use crate::delivery::most_named;
 use crate::reading::{collect, skip};
 use crate::storing::store;
 use history::{Arrived, Fault};
@@ -23,7 +24,7 @@ use para::ParaFault;
 use records::{MOST_CHANGES, RecordFault};
 use std::alloc::Global;
 use std::io::Read;
-use sums::{MOST_SIZE, is_changes_name, is_file_name};
+use sums::{is_changes_name, is_file_name};
 
 /// The answer to a delivery: it is new, or it was there.
 fn arrived(fresh: bool) -> Arrived
@@ -35,9 +36,9 @@ fn arrived(fresh: bool) -> Arrived
 impl<K: Keeper> Archive<K> {
     /// Takes a delivery whose body of `size` bytes a reader gives, at a moment, in seconds since 1970-01-01 00:00:00 UTC, and says
     /// whether it is new, as `deliver` does. The body is read and stored in pieces of at most 65536 bytes; that of a .changes is read
-    /// whole and as a record before it is stored. A body that is refused is read to its end, with two exceptions: of a body of more than
-    /// 4194304 bytes nothing is read, and a fault of memory or of the keeper ends the reading. An input that ends early and a reader
-    /// that fails are reported before any other refusal that depends on what is read.
+    /// whole and as a record before it is stored. A body that is refused is read to its end, with two exceptions: of a body that is too
+    /// large for the configuration nothing is read (`most_named`), and a fault of memory or of the keeper ends the reading. An input
+    /// that ends early and a reader that fails are reported before any other refusal that depends on what is read.
     pub fn receive<R: Read>(
         &mut self,
         alloc: Global,
@@ -51,15 +52,16 @@ impl<K: Keeper> Archive<K> {
         ensures served { IsServed K.Keeper self.new.keeper (stored result) }
         // What the reader gave, and what became of it.
         ensures received { IsReceived K.Keeper (R.remaining reader.old) (R.remaining reader.new) name.now size moment self.old.keeper self.new.keeper result }
-        // A body of more than 4194304 bytes is not read, and the answer is the fault of the delivery itself.
-        ensures large { most_size < size → Keeps (R.remaining reader.old) (R.remaining reader.new)
-            × IsErrAnd result (λ e. (body : List ℕ) → length body ≡ size → delivery_fault name.now body moment ≡ Some e) }
+        // A body that is too large is not read, and the answer is the fault of the delivery itself.
+        ensures large { most_under (K.book self.old.keeper).config name.now < size → Keeps (R.remaining reader.old) (R.remaining reader.new)
+            × IsErrAnd result (λ e. (body : List ℕ) → length body ≡ size → delivery_fault (K.book self.old.keeper).config name.now body moment ≡ Some e) }
         // A refusal leaves the book as it was, whatever the history.
         ensures err { OnErr result (IsUndone K.Keeper self.old.keeper self.new.keeper) }
         // A crash leaves what it would have left before, what the history left, or that with the body that the reader gave.
         ensures crash { LeavesReceived K.Keeper (R.remaining reader.old) (R.remaining reader.new) name.now size moment self.old.keeper self.new.keeper }
     {
-        if size > MOST_SIZE {
+        let most = most_named(self.keeper.config(), name);
+        if size > most {
             if is_file_name(name) {
                 return Err(Fault::TooLarge);
             }

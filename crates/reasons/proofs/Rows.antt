@@ -5,7 +5,7 @@ use Rattle.std.specs.Bool.{then_some}
 use Rattle.std.specs.List.{list_any}
 use Rattle.std.specs.Option.{option_map_or, option_or}
 use Rattle.std.specs.Str.{bytes_eq}
-use Rattle.records.specs.Records.{dsc_in, sidecar_in}
+use Rattle.records.specs.Records.{dsc_in, dsc_within, sidecar_in}
 use Rattle.records.specs.Values.{ChangesValue, DscValue, SidecarValue}
 use Rattle.records.specs.declared.fault.RecordFault.{RecordFault}
 use Rattle.rules.specs.Judgement.{component, has_foreign_architecture, has_foreign_component}
@@ -77,11 +77,11 @@ of_dsc : (c : ChangesValue) (file : List ℕ) (r : Result DscValue RecordFault) 
 of_dsc c file (Ok d) = dsc_differs c file d ∙ is_mapped (named.Dsc file) (dsc_difference c file d)
 of_dsc c file (Err e) = refl
 
-pub a_dsc : (u : UploadValue) → has_bad_dsc u ≡ is_some (dsc_among u.changes (dsc_parts u))
+pub a_dsc : (most : ℕ) (u : UploadValue) → has_bad_dsc most u ≡ is_some (dsc_among most u.changes (dsc_parts u))
 unfolding has_bad_dsc
-a_dsc u =
-    first_where (λ part. match_ok (dsc_in part.1) (differs_from_dsc u.changes part.0.name)) (λ part. named_dsc u.changes part.0.name (dsc_in part.1))
-    (λ part. of_dsc u.changes part.0.name (dsc_in part.1)) (dsc_parts u)
+a_dsc most u =
+    first_where (λ part. match_ok (dsc_within most part.1) (differs_from_dsc u.changes part.0.name)) (λ part. named_dsc u.changes part.0.name (dsc_within most part.1))
+    (λ part. of_dsc u.changes part.0.name (dsc_within most part.1)) (dsc_parts u)
 
 of_sidecar : (c : ChangesValue) (file : List ℕ) (r : Result SidecarValue RecordFault) → match_ok r (differs_from_sidecar c file) ≡ is_some (named_sidecar c file r)
 of_sidecar c file (Ok s) = sidecar_differs c file s ∙ is_mapped (named.Sidecar file) (sidecar_difference c file s)

@@ -4,10 +4,11 @@ use Rattle.std.specs.Bool.{then_some}
 use Rattle.std.specs.FinMap.{get}
 use Rattle.std.specs.Option.{option_or}
 use Rattle.std.specs.Result.{result_ok}
-use Rattle.records.specs.Records.{dsc_in, sidecar_in}
+use Rattle.records.specs.Records.{dsc_in, dsc_within, sidecar_in}
 use Rattle.records.specs.Values.{ChangesValue, DscValue, SidecarValue}
 use Rattle.records.specs.declared.fault.RecordFault.{RecordFault}
 use Rattle.rules.specs.Judgement.{component, suite_of}
+use Rattle.rules.specs.Sizes.{largest}
 use Rattle.rules.specs.Suites.{component_of, keeps_component}
 use Rattle.rules.specs.Values.{ConfigValue}
 use Rattle.rules.specs.declared.suite.Suite.{Suite}
@@ -65,9 +66,9 @@ abbrev pub named_dsc : ChangesValue → List ℕ → Result DscValue RecordFault
 named_dsc c file (Ok d) = option_map (named.Dsc file) (dsc_difference c file d)
 named_dsc c file (Err fault) = Some (named.UnreadDsc file fault)
 
--- the first of some parts of an upload for which something is named
-abbrev pub dsc_among : ChangesValue → List Part → Option Named
-dsc_among c parts = first_some (map (λ part. named_dsc c part.0.name (dsc_in part.1)) parts)
+-- the first of some parts of an upload for which something is named, if a .dsc may list files of at most `most` bytes
+abbrev pub dsc_among : ℕ → ChangesValue → List Part → Option Named
+dsc_among most c parts = first_some (map (λ part. named_dsc c part.0.name (dsc_within most part.1)) parts)
 
 -- 7. a sidecar of this name, as it is read
 abbrev pub named_sidecar : ChangesValue → List ℕ → Result SidecarValue RecordFault → Option Named
@@ -109,7 +110,7 @@ named_by config shelves u verdict.ForeignArchitecture = option_and_then (named_a
 named_by config shelves u verdict.NotAllowed = Some (named_uploader u.changes)
 named_by config shelves u verdict.ForeignComponent = option_and_then (named_component u.changes) (suite_of config u.changes)
 named_by config shelves u verdict.BadListing = named_listing u.changes
-named_by config shelves u verdict.BadDsc = dsc_among u.changes (dsc_parts u)
+named_by config shelves u verdict.BadDsc = dsc_among (largest config) u.changes (dsc_parts u)
 named_by config shelves u verdict.BadSidecar = bad_among u.changes (sidecar_parts u)
 named_by config shelves u verdict.NotInPool = missing_among shelves u.changes (dsc_parts u)
 named_by config shelves u verdict.OtherContents = option_map (in_pool shelves u.changes) (taken_entry shelves u.changes)

@@ -6,6 +6,7 @@ ghost use Rattle.std.specs.Option.{option_map_or};
 ghost use Rattle.records.specs.Records.{dsc_in};
 ghost use Rattle.records.specs.Values.{ChangesValue, DscValue, SidecarValue};
 ghost use Rattle.rules.specs.Judgement.{component, has_foreign_architecture, has_foreign_component, suite_of};
+ghost use Rattle.rules.specs.Sizes.{largest};
 ghost use Rattle.rules.specs.Suites.{keeps_component};
 ghost use Rattle.rules.specs.Values.{ConfigValue};
 ghost use Rattle.rules.specs.declared.suite.Suite.{Suite};
@@ -58,7 +59,8 @@ pub fn verdicts_on_a_changes_name()
 
 /// A verdict from 6 to 9, which the listed files have, is about something if and only if its rule applies.
 pub fn verdicts_on_files_name()
-    ensures dsc { (config : ConfigValue) (shelves : ShelvesValue) (u : UploadValue) → has_bad_dsc u ≡ is_some (named_by config shelves u verdict.BadDsc) }
+    ensures dsc { (config : ConfigValue) (shelves : ShelvesValue) (u : UploadValue) →
+        has_bad_dsc (largest config) u ≡ is_some (named_by config shelves u verdict.BadDsc) }
     ensures sidecar { (config : ConfigValue) (shelves : ShelvesValue) (u : UploadValue) →
         has_bad_sidecar u ≡ is_some (named_by config shelves u verdict.BadSidecar) }
     ensures missing { (config : ConfigValue) (shelves : ShelvesValue) (u : UploadValue) →

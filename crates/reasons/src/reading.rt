@@ -1,7 +1,7 @@
 //! What the verdicts 6 to 8 are about: what the .dsc and the sidecars of an upload say, each as it is read.
 
 ghost use Rattle.std.specs.Prelude.{◌≡◌, Ok, IfOk, option_map};
-ghost use Rattle.records.specs.Records.{dsc_in, sidecar_in};
+ghost use Rattle.records.specs.Records.{dsc_in, dsc_within, sidecar_in};
 ghost use Rattle.suites.specs.Upload.{dsc_parts, sidecar_parts};
 ghost use Rattle.reasons.specs.Named.{twins};
 ghost use Rattle.reasons.specs.Reasons.{bad_among, dsc_among, missing_among, named_dsc, named_missing, named_sidecar, of_twins, sidecar_among, sidecars_of};
@@ -15,13 +15,13 @@ use para::Text;
 use records::{Changes, Dsc, RecordFault, Sidecar};
 use std::alloc::{AllocError, Global};
 use suites::{Shelves, Upload};
-use sums::Entry;
+use sums::{Entry, GREATEST_SIZE};
 
-/// The .dsc that a text is, or its fault.
-fn dsc_in(alloc: Global, text: &[u8]) -> Result<Result<Dsc, RecordFault>, AllocError>
-    ensures { IfOk result (λ read. read ≡ dsc_in text.now) }
+/// The .dsc of files of at most `most` bytes that a text is, or its fault.
+fn dsc_within(alloc: Global, text: &[u8], most: u64) -> Result<Result<Dsc, RecordFault>, AllocError>
+    ensures { IfOk result (λ read. read ≡ dsc_within most text.now) }
 {
-    match Dsc::read(alloc, text) {
+    match Dsc::read_within(alloc, text, most) {
         Ok(dsc) => Ok(Ok(dsc)),
         Err(RecordFault::OutOfMemory) => Err(AllocError),
         Err(fault) => Ok(Err(fault)),
@@ -39,17 +39,18 @@ fn sidecar_in(alloc: Global, text: &[u8]) -> Result<Result<Sidecar, RecordFault>
     }
 }
 
-/// Verdict 6: what is wrong with a .dsc of this text.
+/// Verdict 6: what is wrong with a .dsc of this text, which may list files of at most `most` bytes.
 fn of_dsc(
     alloc: Global,
     changes: &Changes,
     entry: &Entry,
     text: &[u8],
+    most: u64,
 ) -> Result<Option<Named>, AllocError>
-    ensures { IfOk result (λ found. found ≡ named_dsc changes.now entry.now.name (dsc_in text.now)) }
+    ensures { IfOk result (λ found. found ≡ named_dsc changes.now entry.now.name (dsc_within most text.now)) }
 {
     let file = entry.name.try_clone()?;
-    let dsc = match dsc_in(alloc, text)? {
+    let dsc = match dsc_within(alloc, text, most)? {
         Ok(dsc) => dsc,
         Err(fault) => return Ok(Some(Named::UnreadDsc { file, fault })),
     };
@@ -59,13 +60,13 @@ fn of_dsc(
     }
 }
 
-/// Verdict 6: a .dsc of the upload.
-pub fn bad_dsc(alloc: Global, upload: &Upload) -> Result<Option<Named>, AllocError>
-    ensures { IfOk result (λ found. found ≡ dsc_among upload.now.changes (dsc_parts upload.now)) }
+/// Verdict 6: a .dsc of the upload, which may list files of at most `most` bytes.
+pub fn bad_dsc(alloc: Global, upload: &Upload, most: u64) -> Result<Option<Named>, AllocError>
+    ensures { IfOk result (λ found. found ≡ dsc_among most upload.now.changes (dsc_parts upload.now)) }
 {
     let parts = upload.parts(alloc, ".dsc")?;
     for part in &parts {
-        if let Some(named) = of_dsc(alloc, upload.changes(), part.entry, part.text)? {
+        if let Some(named) = of_dsc(alloc, upload.changes(), part.entry, part.text, most)? {
             return Ok(Some(named));
         }
     }
@@ -166,7 +167,7 @@ fn missing_of(
 ) -> Result<Option<Named>, AllocError>
     ensures { IfOk result (λ found. found ≡ named_missing shelves.now changes.now entry.now.name (dsc_in text.now)) }
 {
-    let dsc = match dsc_in(alloc, text)? {
+    let dsc = match dsc_within(alloc, text, GREATEST_SIZE)? {
         Ok(dsc) => dsc,
         Err(fault) => {
             return Ok(Some(Named::UnreadDsc {

@@ -44,7 +44,7 @@ fn named_by(
         Verdict::NotAllowed => uploader(alloc, changes),
         Verdict::ForeignComponent => foreign_component(alloc, config, changes),
         Verdict::BadListing => listing(changes),
-        Verdict::BadDsc => bad_dsc(alloc, upload),
+        Verdict::BadDsc => bad_dsc(alloc, upload, config.largest_file()),
         Verdict::BadSidecar => bad_sidecar(alloc, upload),
         Verdict::NotInPool => missing(alloc, shelves, upload),
         Verdict::OtherContents => other_contents(alloc, shelves, changes),

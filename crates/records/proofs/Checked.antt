@@ -12,7 +12,7 @@ use Rattle.std.proofs.lemmas.Slice.Eq.{bytes_eq-Decides}
 use Rattle.para.specs.Bytes.{is_nil}
 use Rattle.para.specs.Fields.{Fields}
 use Rattle.vers.specs.Syntax.{IsVersion}
-use Rattle.sums.specs.Lists.{lists_in, ListedIn}
+use Rattle.sums.specs.Lists.{lists_within, ListedIn}
 use Rattle.sums.specs.declared.entries.Entry.{Entry}
 use Rattle.sums.specs.declared.entries.ListKind.{ListKind}
 use Rattle.sums.specs.declared.fault.ListFault.{ListFault}
@@ -221,10 +221,10 @@ no_list_fault : (r : Result (List Entry) ListFault) → records.fault_of_lists r
 no_list_fault (Ok es) h = refl
 no_list_fault (Err e) h = cc
 
-pub listed : (kind : ListKind) (p : Fields) → records.bad_lists kind p ≡ None → ListedIn p kind (records.entries_of kind p)
+pub listed : (most : ℕ) (kind : ListKind) (p : Fields) → records.bad_lists most kind p ≡ None → ListedIn most p kind (records.entries_of most kind p)
 unfolding records.bad_lists records.entries_of
-listed kind p h = listed_of_read kind p _ (no_list_fault (lists_in kind p) h)
+listed most kind p h = listed_of_read most kind p _ (no_list_fault (lists_within most kind p) h)
 
-pub is_listed : (kind : ListKind) (p : Fields) (es : List Entry) → ListedIn p kind es → (records.bad_lists kind p ≡ None) × (records.entries_of kind p ≡ es)
+pub is_listed : (most : ℕ) (kind : ListKind) (p : Fields) (es : List Entry) → ListedIn most p kind es → (records.bad_lists most kind p ≡ None) × (records.entries_of most kind p ≡ es)
 unfolding records.bad_lists records.entries_of
-is_listed kind p es h = let e = read_of_listed kind p es h in (ap records.fault_of_lists e, ap records.entries_or_none e)
+is_listed most kind p es h = let e = read_of_listed most kind p es h in (ap records.fault_of_lists e, ap records.entries_or_none e)

@@ -32,11 +32,11 @@ same_changes c s v a d p e hs hv ha hd hp he =
     ∙ ap (λ x. make_changes c.source c.version c.architectures c.distribution x e) hp
     ∙ ap (λ x. make_changes c.source c.version c.architectures c.distribution c.person x) he
 
-pub changes_made : (p : Fields) (c : ChangesValue) → unless (records.changes_fault p) (records.changes_of p) ≡ Ok c → MakesChanges p c
-changes_made p c h =
-    let u = unless_ok (records.changes_fault p) (records.changes_of p) c h in
-    let n = none_apply (records.changes_checks p) u.0 in
-    subst (MakesChanges p) u.1 (record {
+pub changes_made : (most : ℕ) (p : Fields) (c : ChangesValue) → unless (records.changes_fault most p) (records.changes_of most p) ≡ Ok c → MakesChanges most p c
+changes_made most p c h =
+    let u = unless_ok (records.changes_fault most p) (records.changes_of most p) c h in
+    let n = none_apply (records.changes_checks most p) u.0 in
+    subst (MakesChanges most p) u.1 (record {
       required = required_there records.changes_required p n.0;
       simple = simple_ones records.changes_simple p n.1.0;
       format = known_format records.changes_formats p n.1.1.0;
@@ -48,14 +48,14 @@ changes_made p c h =
       distribution = refl;
       is_distribution = distribution p n.1.1.1.1.1.1.0;
       person = refl;
-      entries = listed kinds.Changes p n.1.1.1.1.1.1.1.0;
+      entries = listed most kinds.Changes p n.1.1.1.1.1.1.1.0;
     })
 
-pub made_changes : (p : Fields) (c : ChangesValue) → MakesChanges p c → unless (records.changes_fault p) (records.changes_of p) ≡ Ok c
-made_changes p c m =
+pub made_changes : (most : ℕ) (p : Fields) (c : ChangesValue) → MakesChanges most p c → unless (records.changes_fault most p) (records.changes_of most p) ≡ Ok c
+made_changes most p c m =
     let source = named_source (words field.Source p) c.source m.source in
-    let entries = is_listed kinds.Changes p c.entries m.entries in
-    let none : records.changes_fault p ≡ None = none_applies (records.changes_checks p) (
+    let entries = is_listed most kinds.Changes p c.entries m.entries in
+    let none : records.changes_fault most p ≡ None = none_applies (records.changes_checks most p) (
       none_missing records.changes_required p m.required,
       (
         all_simple records.changes_simple p m.simple,
@@ -74,7 +74,7 @@ made_changes p c m =
         ),
       ),
     ) in
-    ap (λ f. unless f (records.changes_of p)) none
+    ap (λ f. unless f (records.changes_of most p)) none
     ∙ ap Ok (same_changes c _ _ _ _ _ _ source.1 (sym m.version) (sym m.architectures) (sym m.distribution) (sym m.person) entries.1)
 
 -- ---- a .dsc
@@ -86,11 +86,11 @@ same_dsc : (d : DscValue) (s v : List ℕ) (e : List Entry) → s ≡ d.source �
 same_dsc d s v e hs hv he =
     ap (λ x. make_dsc x v e) hs ∙ ap (λ x. make_dsc d.source x e) hv ∙ ap (λ x. make_dsc d.source d.version x) he
 
-pub dsc_made : (p : Fields) (d : DscValue) → unless (records.dsc_fault p) (records.dsc_of p) ≡ Ok d → MakesDsc p d
-dsc_made p d h =
-    let u = unless_ok (records.dsc_fault p) (records.dsc_of p) d h in
-    let n = none_apply (records.dsc_checks p) u.0 in
-    subst (MakesDsc p) u.1 (record {
+pub dsc_made : (most : ℕ) (p : Fields) (d : DscValue) → unless (records.dsc_fault most p) (records.dsc_of most p) ≡ Ok d → MakesDsc most p d
+dsc_made most p d h =
+    let u = unless_ok (records.dsc_fault most p) (records.dsc_of most p) d h in
+    let n = none_apply (records.dsc_checks most p) u.0 in
+    subst (MakesDsc most p) u.1 (record {
       required = required_there records.dsc_required p n.0;
       simple = simple_ones records.dsc_simple p n.1.0;
       format = known_format records.dsc_formats p n.1.1.0;
@@ -98,14 +98,14 @@ dsc_made p d h =
       is_source = is_named (value field.Source p) n.1.1.1.0;
       version = refl;
       is_version = is_version p n.1.1.1.1.0;
-      entries = listed kinds.Dsc p n.1.1.1.1.1.0;
+      entries = listed most kinds.Dsc p n.1.1.1.1.1.0;
       own = own_absent records.dsc_own p n.1.1.1.1.1.1.0;
     })
 
-pub made_dsc : (p : Fields) (d : DscValue) → MakesDsc p d → unless (records.dsc_fault p) (records.dsc_of p) ≡ Ok d
-made_dsc p d m =
-    let entries = is_listed kinds.Dsc p d.entries m.entries in
-    let none : records.dsc_fault p ≡ None = none_applies (records.dsc_checks p) (
+pub made_dsc : (most : ℕ) (p : Fields) (d : DscValue) → MakesDsc most p d → unless (records.dsc_fault most p) (records.dsc_of most p) ≡ Ok d
+made_dsc most p d m =
+    let entries = is_listed most kinds.Dsc p d.entries m.entries in
+    let none : records.dsc_fault most p ≡ None = none_applies (records.dsc_checks most p) (
       none_missing records.dsc_required p m.required,
       (
         all_simple records.dsc_simple p m.simple,
@@ -118,7 +118,7 @@ made_dsc p d m =
         ),
       ),
     ) in
-    ap (λ f. unless f (records.dsc_of p)) none ∙ ap Ok (same_dsc d _ _ _ (sym m.source) (sym m.version) entries.1)
+    ap (λ f. unless f (records.dsc_of most p)) none ∙ ap Ok (same_dsc d _ _ _ (sym m.source) (sym m.version) entries.1)
 
 -- ---- a sidecar
 

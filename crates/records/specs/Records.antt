@@ -8,7 +8,8 @@ use Rattle.para.specs.Bytes.{is_nil}
 use Rattle.para.specs.Value.{folded_value}
 use Rattle.para.specs.declared.fault.ParaFault.{ParaFault}
 use Rattle.vers.specs.Syntax.{IsVersion, fault as version_fault}
-use Rattle.sums.specs.Lists.{lists_in, ListedIn}
+use Rattle.sums.specs.Lines.{greatest_size}
+use Rattle.sums.specs.Lists.{lists_within, ListedIn}
 use Rattle.sums.specs.declared.entries.Entry.{Entry}
 use Rattle.sums.specs.declared.fault.ListFault.{ListFault}
 use Rattle.sums.specs.declared.entries.ListKind.{ListKind}
@@ -121,15 +122,16 @@ abbrev pub fault_of_lists : Result (List Entry) ListFault → Option RecordFault
 fault_of_lists (Ok entries) = None
 fault_of_lists (Err fault) = Some (faults.Lists fault)
 
-unfoldable pub bad_lists : ListKind → Fields → Option RecordFault
-bad_lists kind p = fault_of_lists (lists_in kind p)
+-- of files of at most `most` bytes
+unfoldable pub bad_lists : ℕ → ListKind → Fields → Option RecordFault
+bad_lists most kind p = fault_of_lists (lists_within most kind p)
 
 abbrev pub entries_or_none : Result (List Entry) ListFault → List Entry
 entries_or_none (Ok entries) = entries
 entries_or_none (Err fault) = []
 
-unfoldable pub entries_of : ListKind → Fields → List Entry
-entries_of kind p = entries_or_none (lists_in kind p)
+unfoldable pub entries_of : ℕ → ListKind → Fields → List Entry
+entries_of most kind p = entries_or_none (lists_within most kind p)
 
 -- a field is there that the archive writes itself
 unfoldable pub has_own_field : List FieldName → Fields → Option RecordFault
@@ -157,8 +159,8 @@ abbrev pub changes_formats : List (List ℕ)
 changes_formats = codes "1.8" ∷ []
 
 -- its checks, in the order of the numbers of their faults
-abbrev pub changes_checks : Fields → List (Option RecordFault)
-changes_checks p =
+abbrev pub changes_checks : ℕ → Fields → List (Option RecordFault)
+changes_checks most p =
     missing changes_required p
     ∷ not_simple changes_simple p
     ∷ unknown_format changes_formats p
@@ -166,20 +168,20 @@ changes_checks p =
     ∷ bad_version p
     ∷ bad_architectures p
     ∷ bad_distribution p
-    ∷ bad_lists kinds.Changes p
+    ∷ bad_lists most kinds.Changes p
     ∷ []
 
-abbrev pub changes_fault : Fields → Option RecordFault
-changes_fault p = first_of (changes_checks p)
+abbrev pub changes_fault : ℕ → Fields → Option RecordFault
+changes_fault most p = first_of (changes_checks most p)
 
-abbrev pub changes_of : Fields → ChangesValue
-changes_of p = record {
+abbrev pub changes_of : ℕ → Fields → ChangesValue
+changes_of most p = record {
   source = first_of_words (words field.Source p);
   version = value field.Version p;
   architectures = words field.Architecture p;
   distribution = value field.Distribution p;
   person = person_of p;
-  entries = entries_of kinds.Changes p;
+  entries = entries_of most kinds.Changes p;
 }
 
 -- ---- a .dsc: format 1.0 or 3.0 (Policy 5.4)
@@ -199,25 +201,25 @@ abbrev pub dsc_own : List FieldName
 dsc_own = field.Package ∷ field.Directory ∷ []
 
 -- its checks, in the order of the numbers of their faults
-abbrev pub dsc_checks : Fields → List (Option RecordFault)
-dsc_checks p =
+abbrev pub dsc_checks : ℕ → Fields → List (Option RecordFault)
+dsc_checks most p =
     missing dsc_required p
     ∷ not_simple dsc_simple p
     ∷ unknown_format dsc_formats p
     ∷ bad_name (value field.Source p)
     ∷ bad_version p
-    ∷ bad_lists kinds.Dsc p
+    ∷ bad_lists most kinds.Dsc p
     ∷ has_own_field dsc_own p
     ∷ []
 
-abbrev pub dsc_fault : Fields → Option RecordFault
-dsc_fault p = first_of (dsc_checks p)
+abbrev pub dsc_fault : ℕ → Fields → Option RecordFault
+dsc_fault most p = first_of (dsc_checks most p)
 
-abbrev pub dsc_of : Fields → DscValue
-dsc_of p = record {
+abbrev pub dsc_of : ℕ → Fields → DscValue
+dsc_of most p = record {
   source = value field.Source p;
   version = value field.Version p;
-  entries = entries_of kinds.Dsc p;
+  entries = entries_of most kinds.Dsc p;
 }
 
 -- ---- a sidecar, the control paragraph of a binary package: one architecture, not `source` (Policy 5.3)
@@ -275,11 +277,19 @@ dsc_limit = changes_limit
 abbrev pub sidecar_limit : ℕ
 sidecar_limit = 65_536
 
-unfoldable pub changes_in : List ℕ → Result ChangesValue RecordFault
-changes_in text = of_fields (λ p. unless (changes_fault p) (changes_of p)) (fields_in text changes_limit)
+-- a .changes that lists files of at most `most` bytes
+unfoldable pub changes_within : ℕ → List ℕ → Result ChangesValue RecordFault
+changes_within most text = of_fields (λ p. unless (changes_fault most p) (changes_of most p)) (fields_in text changes_limit)
 
-unfoldable pub dsc_in : List ℕ → Result DscValue RecordFault
-dsc_in text = of_fields (λ p. unless (dsc_fault p) (dsc_of p)) (fields_in text dsc_limit)
+-- a .changes that lists files of at most `greatest_size` bytes
+abbrev pub changes_in : List ℕ → Result ChangesValue RecordFault
+changes_in text = changes_within greatest_size text
+
+unfoldable pub dsc_within : ℕ → List ℕ → Result DscValue RecordFault
+dsc_within most text = of_fields (λ p. unless (dsc_fault most p) (dsc_of most p)) (fields_in text dsc_limit)
+
+abbrev pub dsc_in : List ℕ → Result DscValue RecordFault
+dsc_in text = dsc_within greatest_size text
 
 unfoldable pub sidecar_in : List ℕ → Result SidecarValue RecordFault
 sidecar_in text = of_fields (λ p. unless (sidecar_fault p) (sidecar_of p)) (fields_in text sidecar_limit)
@@ -310,7 +320,7 @@ pub record AreArchitectures (names : List (List ℕ)) : Type 0 where
   pub differ : AllPairs (λ a b. a ≢ b) names
 
 -- what a .changes has in its fields
-pub record MakesChanges (p : Fields) (c : ChangesValue) : Type 0 where
+pub record MakesChanges (most : ℕ) (p : Fields) (c : ChangesValue) : Type 0 where
   pub required : HasEach changes_required p
   pub simple : AreSimple changes_simple p
   pub format : Contains changes_formats (value field.Format p)
@@ -322,10 +332,10 @@ pub record MakesChanges (p : Fields) (c : ChangesValue) : Type 0 where
   pub distribution : c.distribution ≡ value field.Distribution p
   pub is_distribution : is_plain_name c.distribution ≡ true
   pub person : c.person ≡ person_of p
-  pub entries : ListedIn p kinds.Changes c.entries
+  pub entries : ListedIn most p kinds.Changes c.entries
 
 -- what a .dsc has in its fields
-pub record MakesDsc (p : Fields) (d : DscValue) : Type 0 where
+pub record MakesDsc (most : ℕ) (p : Fields) (d : DscValue) : Type 0 where
   pub required : HasEach dsc_required p
   pub simple : AreSimple dsc_simple p
   pub format : Contains dsc_formats (value field.Format p)
@@ -333,7 +343,7 @@ pub record MakesDsc (p : Fields) (d : DscValue) : Type 0 where
   pub is_source : is_package_name d.source ≡ true
   pub version : d.version ≡ value field.Version p
   pub is_version : IsVersion d.version
-  pub entries : ListedIn p kinds.Dsc d.entries
+  pub entries : ListedIn most p kinds.Dsc d.entries
   pub own : HasNone dsc_own p
 
 -- what a sidecar has in its fields
@@ -349,19 +359,20 @@ pub record MakesSidecar (p : Fields) (s : SidecarValue) : Type 0 where
   pub is_architecture : (is_architecture_name s.architecture ≡ true) × (s.architecture ≢ codes "source")
   pub own : HasNone sidecar_own p
 
--- THE TEXT of a .changes (Policy 5.5): within its limit it spells one paragraph, which has these fields.
-pub record IsChanges (text : List ℕ) (c : ChangesValue) : Type 0 where
+-- THE TEXT of a .changes (Policy 5.5): within its limit it spells one paragraph, which has these fields, and lists files of at
+-- most `most` bytes.
+pub record IsChanges (most : ℕ) (text : List ℕ) (c : ChangesValue) : Type 0 where
   pub within : length text ≤ changes_limit
   pub paragraph : Fields
   pub spelled : Spells text (paragraph ∷ [])
-  pub made : MakesChanges paragraph c
+  pub made : MakesChanges most paragraph c
 
 -- the text of a .dsc (Policy 5.4)
-pub record IsDsc (text : List ℕ) (d : DscValue) : Type 0 where
+pub record IsDsc (most : ℕ) (text : List ℕ) (d : DscValue) : Type 0 where
   pub within : length text ≤ dsc_limit
   pub paragraph : Fields
   pub spelled : Spells text (paragraph ∷ [])
-  pub made : MakesDsc paragraph d
+  pub made : MakesDsc most paragraph d
 
 -- the text of a sidecar (Policy 5.3)
 pub record IsSidecar (text : List ℕ) (s : SidecarValue) : Type 0 where

@@ -1,7 +1,7 @@
 //! A .changes (Debian Policy 5.5).
 
 ghost use Rattle.std.specs.Prelude.{◌≡◌, ◌⊎◌, List, [], ◌∷◌, Option, Some, None, Ok, Err, IfOk, IfErr, MatchResult};
-ghost use Rattle.records.specs.Records.{changes_in, changes_fault, changes_of, changes_required, changes_simple, changes_formats, first_of, missing, not_simple, unknown_format, bad_source, bad_architectures, bad_distribution, bad_lists, first_of_words, person_of, value, words, entries_of};
+ghost use Rattle.records.specs.Records.{changes_in, changes_within, changes_fault, changes_of, changes_required, changes_simple, changes_formats, first_of, missing, not_simple, unknown_format, bad_source, bad_architectures, bad_distribution, bad_lists, first_of_words, person_of, value, words, entries_of};
 ghost use Rattle.records.specs.declared.fault.RecordFault.{RecordFault};
 
 use crate::checks::{check_required, check_simple, is_there, value_of};
@@ -12,7 +12,7 @@ use crate::parts::{architectures_of, files_of, source_of, version_of, words_of};
 use para::{Listed, Paragraph, Text, read_one};
 use std::alloc::{AllocError, Global};
 use std::marker::Model;
-use sums::{Entry, ListKind};
+use sums::{Entry, GREATEST_SIZE, ListKind};
 use vers::Version;
 
 /// A .changes: which files an upload has, for which distribution and from whom.
@@ -156,21 +156,21 @@ struct Listing {
 }
 
 /// What the paragraph lists. The checks after that of the version are made here.
-fn listing_of(alloc: Global, paragraph: &Paragraph<'_>) -> Result<Listing, RecordFault>
+fn listing_of(alloc: Global, paragraph: &Paragraph<'_>, most: u64) -> Result<Listing, RecordFault>
     ensures found { IfOk result (λ l. l ≡ record {
       architectures = words FieldName.Architecture paragraph.now;
       distribution = value FieldName.Distribution paragraph.now;
-      entries = entries_of ListKind.Changes paragraph.now;
+      entries = entries_of most ListKind.Changes paragraph.now;
     }) }
     ensures only { IfOk result (λ _. first_of (bad_architectures paragraph.now ∷ bad_distribution paragraph.now
-        ∷ bad_lists ListKind.Changes paragraph.now ∷ []) ≡ None) }
+        ∷ bad_lists most ListKind.Changes paragraph.now ∷ []) ≡ None) }
     ensures refused { IfErr result
         (λ e. (e ≡ RecordFault.OutOfMemory) ⊎ (first_of (bad_architectures paragraph.now ∷ bad_distribution paragraph.now
-        ∷ bad_lists ListKind.Changes paragraph.now ∷ []) ≡ Some e)) }
+        ∷ bad_lists most ListKind.Changes paragraph.now ∷ []) ≡ Some e)) }
 {
     let architectures = architectures_of(alloc, paragraph)?;
     let distribution = Text::new(alloc, distribution_of(paragraph)?)?;
-    let entries = files_of(alloc, paragraph, ListKind::Changes)?;
+    let entries = files_of(alloc, paragraph, ListKind::Changes, most)?;
     Ok(Listing {
         architectures,
         distribution,
@@ -213,30 +213,40 @@ fn made_of(
 }
 
 /// The .changes that a paragraph is.
-fn changes_from(alloc: Global, paragraph: &Paragraph<'_>) -> Result<Changes, RecordFault>
-    ensures only { IfOk result (λ _. changes_fault paragraph.now ≡ None) }
-    ensures read { IfOk result (λ c. c ≡ changes_of paragraph.now) }
+fn changes_from(alloc: Global, paragraph: &Paragraph<'_>, most: u64) -> Result<Changes, RecordFault>
+    ensures only { IfOk result (λ _. changes_fault most paragraph.now ≡ None) }
+    ensures read { IfOk result (λ c. c ≡ changes_of most paragraph.now) }
     ensures refused { IfErr result
-        (λ e. (e ≡ RecordFault.OutOfMemory) ⊎ (changes_fault paragraph.now ≡ Some e)) }
+        (λ e. (e ≡ RecordFault.OutOfMemory) ⊎ (changes_fault most paragraph.now ≡ Some e)) }
 {
     check_front(paragraph)?;
     let source = source_name(alloc, paragraph)?;
     let version = version_of(alloc, paragraph)?;
-    let listing = listing_of(alloc, paragraph)?;
+    let listing = listing_of(alloc, paragraph, most)?;
     Ok(made_of(alloc, paragraph, source, version, listing)?)
 }
 
 impl Changes {
     /// Reads a .changes (Debian Policy 5.5): one paragraph of at most 1,048,576 bytes, in format 1.8, with the fields
     /// Format, Date, Source, Version, Architecture, Distribution, Maintainer, Changes, Checksums-Sha1, Checksums-Sha256
-    /// and Files, and one distribution. If several faults apply, the answer is the one of lowest number.
+    /// and Files, and one distribution, which lists files of at most `most` bytes (never more than 1 GiB). If several faults
+    /// apply, the answer is the one of lowest number.
+    pub fn read_within(alloc: Global, text: &[u8], most: u64) -> Result<Changes, RecordFault>
+        ensures read { IfOk result (λ c. changes_within most text.now ≡ Ok c) }
+        ensures refused { IfErr result
+            (λ e. (e ≡ RecordFault.OutOfMemory) ⊎ (changes_within most text.now ≡ Err e)) }
+    {
+        let paragraph = read_one(alloc, text, MOST_CHANGES)?;
+        changes_from(alloc, &paragraph, most)
+    }
+
+    /// Reads a .changes as `read_within` does, with files of at most 1 GiB.
     pub fn read(alloc: Global, text: &[u8]) -> Result<Changes, RecordFault>
         ensures read { IfOk result (λ c. changes_in text.now ≡ Ok c) }
         ensures refused { IfErr result
             (λ e. (e ≡ RecordFault.OutOfMemory) ⊎ (changes_in text.now ≡ Err e)) }
     {
-        let paragraph = read_one(alloc, text, MOST_CHANGES)?;
-        changes_from(alloc, &paragraph)
+        Changes::read_within(alloc, text, GREATEST_SIZE)
     }
 
     /// The name of the source package.

@@ -1,7 +1,7 @@
 //! A .dsc, the control file of a source package (Debian Policy 5.4).
 
 ghost use Rattle.std.specs.Prelude.{◌≡◌, ◌⊎◌, List, ◌∷◌, Option, Some, None, Ok, Err, IfOk, IfErr, MatchResult};
-ghost use Rattle.records.specs.Records.{dsc_in, dsc_fault, dsc_of, dsc_required, dsc_simple, dsc_formats, first_of, missing, not_simple, unknown_format, bad_name, value};
+ghost use Rattle.records.specs.Records.{dsc_in, dsc_within, dsc_fault, dsc_of, dsc_required, dsc_simple, dsc_formats, first_of, missing, not_simple, unknown_format, bad_name, value};
 ghost use Rattle.records.specs.declared.fault.RecordFault.{RecordFault};
 
 use crate::changes::MOST_CHANGES;
@@ -12,7 +12,7 @@ use crate::parts::{check_name, files_of, version_of};
 use para::{Listed, Paragraph, Text, read_one};
 use std::alloc::Global;
 use std::marker::Model;
-use sums::{Entry, ListKind};
+use sums::{Entry, GREATEST_SIZE, ListKind};
 use vers::Version;
 
 /// A .dsc: a source package and the files that it is made of.
@@ -98,15 +98,15 @@ fn check_front(paragraph: &Paragraph<'_>) -> Result<(), RecordFault>
 }
 
 /// The .dsc that a paragraph is.
-fn dsc_from(alloc: Global, paragraph: &Paragraph<'_>) -> Result<Dsc, RecordFault>
-    ensures only { IfOk result (λ _. dsc_fault paragraph.now ≡ None) }
-    ensures read { IfOk result (λ d. d ≡ dsc_of paragraph.now) }
+fn dsc_from(alloc: Global, paragraph: &Paragraph<'_>, most: u64) -> Result<Dsc, RecordFault>
+    ensures only { IfOk result (λ _. dsc_fault most paragraph.now ≡ None) }
+    ensures read { IfOk result (λ d. d ≡ dsc_of most paragraph.now) }
     ensures refused { IfErr result
-        (λ e. (e ≡ RecordFault.OutOfMemory) ⊎ (dsc_fault paragraph.now ≡ Some e)) }
+        (λ e. (e ≡ RecordFault.OutOfMemory) ⊎ (dsc_fault most paragraph.now ≡ Some e)) }
 {
     check_front(paragraph)?;
     let version = version_of(alloc, paragraph)?;
-    let entries = files_of(alloc, paragraph, ListKind::Dsc)?;
+    let entries = files_of(alloc, paragraph, ListKind::Dsc, most)?;
     check_own(paragraph, &OWN)?;
     Ok(Dsc {
         source: Text::new(alloc, value_of(paragraph, FieldName::Source))?,
@@ -118,14 +118,24 @@ fn dsc_from(alloc: Global, paragraph: &Paragraph<'_>) -> Result<Dsc, RecordFault
 impl Dsc {
     /// Reads a .dsc (Debian Policy 5.4): one paragraph of at most 1,048,576 bytes, in format 1.0, 3.0 (native) or
     /// 3.0 (quilt), with the fields Format, Source, Version, Maintainer, Checksums-Sha1, Checksums-Sha256 and Files, and
-    /// without Package and Directory. If several faults apply, the answer is the one of lowest number.
+    /// without Package and Directory, which lists files of at most `most` bytes (never more than 1 GiB). If several faults
+    /// apply, the answer is the one of lowest number.
+    pub fn read_within(alloc: Global, text: &[u8], most: u64) -> Result<Dsc, RecordFault>
+        ensures read { IfOk result (λ d. dsc_within most text.now ≡ Ok d) }
+        ensures refused { IfErr result
+            (λ e. (e ≡ RecordFault.OutOfMemory) ⊎ (dsc_within most text.now ≡ Err e)) }
+    {
+        let paragraph = read_one(alloc, text, MOST_DSC)?;
+        dsc_from(alloc, &paragraph, most)
+    }
+
+    /// Reads a .dsc as `read_within` does, with files of at most 1 GiB.
     pub fn read(alloc: Global, text: &[u8]) -> Result<Dsc, RecordFault>
         ensures read { IfOk result (λ d. dsc_in text.now ≡ Ok d) }
         ensures refused { IfErr result
             (λ e. (e ≡ RecordFault.OutOfMemory) ⊎ (dsc_in text.now ≡ Err e)) }
     {
-        let paragraph = read_one(alloc, text, MOST_DSC)?;
-        dsc_from(alloc, &paragraph)
+        Dsc::read_within(alloc, text, GREATEST_SIZE)
     }
 
     /// The name of the source package.

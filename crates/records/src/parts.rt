@@ -13,7 +13,7 @@ use crate::names::{is_architecture, is_package};
 use para::{Listed, Paragraph, Text, fold};
 use std::alloc::{AllocError, Global};
 use std::collections::BTreeSet;
-use sums::{Entry, ListKind, read_lists};
+use sums::{Entry, ListKind, read_lists_within};
 use vers::Version;
 
 /// The words of the field, or no words if it is absent.
@@ -134,17 +134,18 @@ pub fn architectures_of(
     Ok(texts_of(alloc, &words)?)
 }
 
-/// The listed files of the paragraph.
+/// The listed files of the paragraph, each of at most `most` bytes.
 #[tactic(auto, unfolding(crate::specs::Records::bad_lists, crate::specs::Records::entries_of))]
 pub fn files_of(
     alloc: Global,
     paragraph: &Paragraph<'_>,
     kind: ListKind,
+    most: u64,
 ) -> Result<Listed<Entry>, RecordFault>
-    ensures found { IfOk result (λ entries. entries ≡ entries_of kind paragraph.now) }
-    ensures only { IfOk result (λ _. bad_lists kind paragraph.now ≡ None) }
+    ensures found { IfOk result (λ entries. entries ≡ entries_of most kind paragraph.now) }
+    ensures only { IfOk result (λ _. bad_lists most kind paragraph.now ≡ None) }
     ensures refused { IfErr result
-        (λ e. (e ≡ RecordFault.OutOfMemory) ⊎ (bad_lists kind paragraph.now ≡ Some e)) }
+        (λ e. (e ≡ RecordFault.OutOfMemory) ⊎ (bad_lists most kind paragraph.now ≡ Some e)) }
 {
-    Ok(Listed::from_vec(read_lists(alloc, paragraph, kind)?))
+    Ok(Listed::from_vec(read_lists_within(alloc, paragraph, kind, most)?))
 }

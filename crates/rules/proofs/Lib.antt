@@ -2,6 +2,7 @@ pub mod JudgeLemmas
 pub mod Division
 pub mod Claims
 pub mod Configs
+pub mod Sizes
 pub mod Apart
 pub mod Twice
 pub mod Faults

@@ -5,7 +5,7 @@ use Rattle.para.specs.Fields.{Fields, paragraphs_in}
 use Rattle.para.specs.Grammar.{Spells}
 use Rattle.para.specs.declared.fault.ParaFault.{ParaFault}
 use Rattle.records.specs.Records.{is_among}
-use Rattle.rules.specs.Paragraphs.{days, suite_of, names_claimed, lacks_field, has_bad_value, has_keep_days, has_bad_rule, is_over_limits}
+use Rattle.rules.specs.Paragraphs.{days, mebibytes, suite_of, names_claimed, lacks_field, has_bad_value, has_keep_days, has_bad_size, has_size, has_bad_rule, is_over_limits}
 use Rattle.rules.specs.Suites.{claims}
 use Rattle.rules.specs.Values.{ConfigValue}
 use Rattle.rules.specs.declared.suite.Suite.{Suite}
@@ -40,7 +40,20 @@ unfoldable pub config_fault : List Fields → Option ConfigFault
 config_fault ps = find (applies ps) config_faults
 
 abbrev pub config_of : List ℕ → List Fields → ConfigValue
-config_of text ps = record { text = text; suites = map suite_of ps; keep_days = days (codes "KeepDays") (get_or ps 0 []) }
+config_of text ps = record { text = text; suites = map suite_of ps; keep_days = days (codes "KeepDays") (get_or ps 0 []); max_file_size = mebibytes (codes "MaxFileSize") (get_or ps 0 []) }
+
+-- a paragraph says a size of another form, or one after the first says a size
+unfoldable pub have_bad_size : List Fields → Bool
+have_bad_size ps = list_any has_bad_size ps || list_any has_size (drop 1 ps)
+
+-- when each fault applies to the paragraphs of a text that is to be a new configuration
+abbrev pub applies_strictly : List Fields → ConfigFault → Bool
+applies_strictly ps faults.BadValue = have_bad_value ps || have_bad_size ps
+applies_strictly ps fault = applies ps fault
+
+-- the fault of lowest number that applies to paragraphs that are to be a new configuration
+unfoldable pub strict_fault : List Fields → Option ConfigFault
+strict_fault ps = find (applies_strictly ps) config_faults
 
 -- the fault, or the configuration if there is no fault
 abbrev pub unless : Option ConfigFault → ConfigValue → Result ConfigValue ConfigFault
@@ -58,6 +71,16 @@ config_limit = 1_048_576
 -- the configuration that a text is, or the fault of lowest number
 unfoldable pub config_in : List ℕ → Result ConfigValue ConfigFault
 config_in text = of_paragraphs text (paragraphs_in text config_limit)
+
+-- the fault of a text that spells no paragraphs, else what is made of the paragraphs of a new configuration
+abbrev pub of_new_paragraphs : List ℕ → Result (List Fields) ParaFault → Result ConfigValue ConfigFault
+of_new_paragraphs text (Ok ps) = unless (strict_fault ps) (config_of text ps)
+of_new_paragraphs text (Err fault) = Err (faults.Paragraph fault)
+
+-- The new configuration that a text is, or the fault of lowest number. A size of another form is a fault here; what is
+-- kept already may have one.
+unfoldable pub strict_config_in : List ℕ → Result ConfigValue ConfigFault
+strict_config_in text = of_new_paragraphs text (paragraphs_in text config_limit)
 
 -- The text is within the limit, spells one or more paragraphs to which no fault applies, and the configuration is
 -- that text and a suite for each of them.

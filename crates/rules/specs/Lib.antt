@@ -4,6 +4,7 @@ pub mod Verdicts
 pub mod Judgement
 pub mod Uploaders
 pub mod Days
+pub mod Sizes
 pub mod Paragraphs
 pub mod Fault
 pub mod Configuration

@@ -1,5 +1,5 @@
 -- The paragraph of a suite: its fields, and what each of them may be.
-use Rattle.std.specs.Prelude.{ℕ, nat_lt, Bool, true, ◌&&◌, ◌||◌, not, List, [], length, codes, bytes_eq, Option, is_some, unwrap_or}
+use Rattle.std.specs.Prelude.{ℕ, nat_lt, Bool, true, ◌&&◌, ◌||◌, not, List, [], length, codes, bytes_eq, if◌then◌else◌, Option, None, is_some, unwrap_or}
 use Rattle.std.specs.Option.{option_and_then, option_map, option_map_or}
 use Rattle.std.specs.List.{list_all}
 use Rattle.para.specs.Bytes.{is_nil}
@@ -9,6 +9,7 @@ use Rattle.para.specs.Value.{folded_value}
 use Rattle.records.specs.Names.{is_architecture_name, is_plain_name}
 use Rattle.records.specs.Records.{are_different}
 use Rattle.rules.specs.Days.{days_in, is_days}
+use Rattle.rules.specs.Sizes.{mebibytes_in}
 use Rattle.rules.specs.Uploaders.{is_rule_line, rules_in}
 use Rattle.rules.specs.Suites.{distributions}
 use Rattle.rules.specs.declared.suite.Suite.{Suite}
@@ -30,6 +31,14 @@ lines_behind name p = option_map (λ f. f.more) (field_named name p)
 -- the number of days of the field, if it is there and has one
 unfoldable pub days : List ℕ → Fields → Option ℕ
 days name p = option_and_then days_in (first_line name p)
+
+-- the number of MiB that a field says: one line, 4 to 1024
+unfoldable pub size_said : FieldValue → Option ℕ
+size_said f = if is_nil f.more then mebibytes_in f.first else None
+
+-- the number of MiB of the field, if it is there and says one
+unfoldable pub mebibytes : List ℕ → Fields → Option ℕ
+mebibytes name p = option_and_then size_said (field_named name p)
 
 -- the suite of a paragraph
 abbrev pub suite_of : Fields → Suite
@@ -110,6 +119,14 @@ has_bad_value p = not (has_good_lines p && has_good_names p)
 -- the paragraph says how long arrivals count, which only the first paragraph may do
 unfoldable pub has_keep_days : Fields → Bool
 has_keep_days p = is_some (field_named (codes "KeepDays") p)
+
+-- The field of the largest file is there and says no number of MiB.
+unfoldable pub has_bad_size : Fields → Bool
+has_bad_size p = not (passes (λ f. is_some (size_said f)) (codes "MaxFileSize") p)
+
+-- the paragraph says how large a file may be, which only the first paragraph may do
+unfoldable pub has_size : Fields → Bool
+has_size p = is_some (field_named (codes "MaxFileSize") p)
 
 -- ---- uploader lines
 

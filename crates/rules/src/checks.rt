@@ -3,8 +3,8 @@
 ghost use Rattle.std.specs.Prelude.{codes, ◌≡◌, ◌⊎◌, ◌||◌, ◌++◌, not, nat_lt, drop, [], ◌∷◌, ℕ, List, IfOk, IfErr, OnOk, MatchResult, Some, None, map, length};
 ghost use Rattle.std.specs.List.{list_any};
 ghost use Rattle.para.specs.Field.{field_value};
-ghost use Rattle.rules.specs.Paragraphs.{names_claimed, words, passes, is_without_word, lacks_field, is_days_line, is_filled_line, is_plain_line, are_plain_words, are_names, is_listed_architecture, has_good_lines, has_good_names, has_bad_value, has_keep_days, are_rules, has_bad_rule, has_few_lines, is_over_limits};
-ghost use Rattle.rules.specs.Configuration.{claims_again, config_fault, have_bad_value};
+ghost use Rattle.rules.specs.Paragraphs.{names_claimed, words, passes, is_without_word, lacks_field, is_days_line, is_filled_line, is_plain_line, are_plain_words, are_names, is_listed_architecture, has_good_lines, has_good_names, has_bad_value, has_keep_days, size_said, has_bad_size, has_size, are_rules, has_bad_rule, has_few_lines, is_over_limits};
+ghost use Rattle.rules.specs.Configuration.{claims_again, config_fault, have_bad_value, have_bad_size, strict_fault};
 ghost use Rattle.records.specs.Names.{is_plain_name};
 ghost use Rattle.records.specs.Records.{is_among};
 ghost use Rattle.rules.specs.Claimed.{holds};
@@ -12,7 +12,7 @@ ghost use Rattle.rules.specs.Claimed.{holds};
 use crate::days::days_in;
 use crate::fault::ConfigFault;
 use crate::names::{are_listed_architectures, are_plain};
-use crate::paragraph::{claimed_names, words_of};
+use crate::paragraph::{claimed_names, size_said, words_of};
 use crate::uploader::are_rule_lines;
 use para::{Field, Paragraph, fold};
 use records::{all_differ, is_plain};
@@ -358,4 +358,64 @@ pub fn check(alloc: Global, paragraphs: &[Paragraph<'_>]) -> Result<(), ConfigFa
         return Err(ConfigFault::Limits);
     }
     Ok(())
+}
+
+/// Whether the field of the largest file is there and says no number of MiB.
+#[tactic(auto, unfolding(crate::specs::Paragraphs::has_bad_size, crate::specs::Paragraphs::passes))]
+fn has_bad_size(paragraph: &Paragraph<'_>) -> bool
+    ensures { result ≡ has_bad_size paragraph.now }
+{
+    match paragraph.get("MaxFileSize") {
+        Some(field) => size_said(field).is_none(),
+        None => false,
+    }
+}
+
+#[tactic(auto, unfolding(crate::specs::Paragraphs::has_size))]
+fn has_size(paragraph: &Paragraph<'_>) -> bool
+    ensures { result ≡ has_size paragraph.now }
+{
+    paragraph.get("MaxFileSize").is_some()
+}
+
+/// Whether a paragraph says a size of another form.
+fn some_say_bad_sizes(paragraphs: &[Paragraph<'_>]) -> bool
+    ensures { result ≡ list_any has_bad_size paragraphs.now }
+{
+    paragraphs.iter().any(has_bad_size)
+}
+
+/// Whether a paragraph after the first says how large a file may be.
+fn some_say_sizes_late(paragraphs: &[Paragraph<'_>]) -> bool
+    ensures { result ≡ list_any has_size (drop 1 paragraphs.now) }
+{
+    match paragraphs.split_first() {
+        Some((_, rest)) => rest.iter().any(has_size),
+        None => false,
+    }
+}
+
+/// Whether a paragraph says a size of another form, or one after the first says a size.
+#[tactic(auto, unfolding(crate::specs::Configuration::have_bad_size))]
+fn have_bad_size(paragraphs: &[Paragraph<'_>]) -> bool
+    ensures { result ≡ have_bad_size paragraphs.now }
+{
+    let late = some_say_sizes_late(paragraphs);
+    let bad = some_say_bad_sizes(paragraphs);
+    bad || late
+}
+
+/// Refuses paragraphs of a new configuration to which a fault applies, with the one of lowest number: as `check`, and with
+/// `BadValue` also for a size of another form.
+pub fn check_strictly(alloc: Global, paragraphs: &[Paragraph<'_>]) -> Result<(), ConfigFault>
+    ensures accepted { IfOk result (λ _. strict_fault paragraphs.now ≡ None) }
+    ensures refused { IfErr result (λ e. (e ≡ ConfigFault.OutOfMemory) ⊎ (strict_fault paragraphs.now ≡ Some e)) }
+{
+    if have_bad_size(paragraphs) {
+        if some_lacks_field(alloc, paragraphs)? {
+            return Err(ConfigFault::Missing);
+        }
+        return Err(ConfigFault::BadValue);
+    }
+    check(alloc, paragraphs)
 }

@@ -2,17 +2,20 @@
 
 ghost use Rattle.std.specs.Prelude.{◌≡◌, ◌⊎◌, [], codes, get_or, Ok, Err, IfOk, IfErr};
 ghost use Rattle.rules.specs.Suites.{claiming, suite_named};
-ghost use Rattle.rules.specs.Configuration.{config_in};
-ghost use Rattle.rules.specs.Paragraphs.{days};
+ghost use Rattle.rules.specs.Configuration.{config_in, strict_config_in};
+ghost use Rattle.rules.specs.Paragraphs.{days, mebibytes};
+ghost use Rattle.rules.specs.Sizes.{largest};
 
-use crate::checks::check;
+use crate::checks::{check, check_strictly};
 use crate::days::Days;
 use crate::fault::ConfigFault;
-use crate::paragraph::{days_of, suites_of};
+use crate::paragraph::{days_of, mebibytes_of, suites_of};
+use crate::size::Mebibytes;
 use crate::suite::{Suite, position_of_claiming, position_of_named};
 use para::{Listed, Paragraph, read_many};
 use std::alloc::Global;
 use std::marker::Model;
+use sums::{GREATEST_SIZE, MOST_SIZE};
 
 /// The most bytes of a configuration that is read (own rule of this archive).
 pub const MOST_CONFIG: usize = 1_048_576;
@@ -23,6 +26,7 @@ pub struct Config {
     text: Vec<u8>,
     suites: Listed<Suite>,
     keep_days: Option<Days>,
+    max_file_size: Option<Mebibytes>,
 }
 
 impl Model for Config {
@@ -32,9 +36,9 @@ impl Model for Config {
 
     ghost Value = { ConfigValue };
 
-    ghost view = { λ c. record { text = c.text.items; suites = c.suites; keep_days = c.keep_days } };
+    ghost view = { λ c. record { text = c.text.items; suites = c.suites; keep_days = c.keep_days; max_file_size = c.max_file_size } };
 
-    ghost invariant = { λ c. config_in c.text.items ≡ Ok (record { text = c.text.items; suites = c.suites; keep_days = c.keep_days }) };
+    ghost invariant = { λ c. config_in c.text.items ≡ Ok (record { text = c.text.items; suites = c.suites; keep_days = c.keep_days; max_file_size = c.max_file_size }) };
 }
 
 /// The number of days for which an arrival counts, if the first paragraph has one.
@@ -43,6 +47,16 @@ fn first_keep_days(paragraphs: &[Paragraph<'_>]) -> Option<Days>
 {
     match paragraphs.first() {
         Some(paragraph) => days_of(paragraph, "KeepDays"),
+        None => None,
+    }
+}
+
+/// The number of MiB that a file may have, if the first paragraph says one.
+fn first_file_size(paragraphs: &[Paragraph<'_>]) -> Option<Mebibytes>
+    ensures { result ≡ mebibytes (codes "MaxFileSize") (get_or paragraphs.now 0 []) }
+{
+    match paragraphs.first() {
+        Some(paragraph) => mebibytes_of(paragraph, "MaxFileSize"),
         None => None,
     }
 }
@@ -73,12 +87,26 @@ impl Config {
         check(alloc, &paragraphs)?;
         let suites = suites_of(alloc, &paragraphs)?;
         let keep_days = first_keep_days(&paragraphs);
+        let max_file_size = first_file_size(&paragraphs);
         let text = text.to_vec(alloc)?;
         Ok(Config {
             text,
             suites,
             keep_days,
+            max_file_size,
         })
+    }
+
+    /// Reads a configuration that somebody hands in anew, as `read` does, and refuses with `BadValue`, in its order, also a
+    /// MaxFileSize that is not one line with a number of MiB, 4 to 1024 in decimal without a leading zero, or that stands in
+    /// a paragraph other than the first. `read` passes such a field over, since an archive may keep one.
+    pub fn read_strict(alloc: Global, text: &[u8]) -> Result<Config, ConfigFault>
+        ensures read { IfOk result (λ c. strict_config_in text.now ≡ Ok c) }
+        ensures refused { IfErr result (λ e. (e ≡ ConfigFault.OutOfMemory) ⊎ (strict_config_in text.now ≡ Err e)) }
+    {
+        let paragraphs = read_many(alloc, text, MOST_CONFIG)?;
+        check_strictly(alloc, &paragraphs)?;
+        Config::read(alloc, text)
     }
 
     /// The bytes that were read.
@@ -101,6 +129,18 @@ impl Config {
         ensures { result ≡ self.now.keep_days }
     {
         self.keep_days
+    }
+
+    /// How many bytes a file that comes in may have at most: the number of MiB that the first paragraph says in its field
+    /// MaxFileSize (one line, 4 to 1024, in decimal without a leading zero), else 4 MiB (own rule of this archive).
+    #[tactic(auto, unfolding(crate::specs::Sizes::largest))]
+    pub fn largest_file(&self) -> u64
+        ensures { result ≡ largest self.now }
+    {
+        match self.max_file_size {
+            Some(size) => size.bytes().min(GREATEST_SIZE).max(MOST_SIZE),
+            None => MOST_SIZE,
+        }
     }
 
     /// The position of the suite that claims the distribution name as its Codename, its Suite or a word of its

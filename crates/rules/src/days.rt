@@ -37,6 +37,13 @@ impl Days {
     {
         self.count as u64 * 86_400
     }
+
+    /// The number.
+    pub fn count(self) -> u32
+        ensures { result ≡ self }
+    {
+        self.count
+    }
 }
 
 fn is_digits(text: &str) -> bool

@@ -2,11 +2,13 @@
 
 ghost use Rattle.std.specs.Prelude.{◌≡◌, ◌≢◌, ◌≤◌, ◌↔◌, ℕ, true, List, [], length, map, Ok, Err, Some};
 ghost use Rattle.para.specs.Fault.{many_fault};
+ghost use Rattle.sums.specs.Lines.{greatest_size, most_size};
 ghost use Rattle.para.specs.Fields.{Fields, paragraphs_in};
 ghost use Rattle.para.specs.Grammar.{Spells};
 ghost use Rattle.para.specs.declared.fault.ParaFault.{ParaFault};
-ghost use Rattle.rules.specs.Configuration.{config_in, config_fault, applies, config_limit, IsConfig, ClaimApart, ClaimOneName};
+ghost use Rattle.rules.specs.Configuration.{config_in, config_fault, applies, config_limit, strict_config_in, strict_fault, IsConfig, ClaimApart, ClaimOneName};
 ghost use Rattle.rules.specs.Paragraphs.{suite_of};
+ghost use Rattle.rules.specs.Sizes.{largest};
 ghost use Rattle.rules.specs.Values.{ConfigValue};
 ghost use Rattle.rules.specs.Verdicts.{number_of, verdict_numbered};
 ghost use Rattle.rules.specs.declared.fault.ConfigFault.{ConfigFault};
@@ -25,6 +27,20 @@ pub fn configurations_are_read()
 pub fn faults_are_lowest()
     ensures paragraphs { (text : List ℕ) (fault : ParaFault) → many_fault text config_limit ≡ Some fault → config_in text ≡ Err (ConfigFault.Paragraph fault) }
     ensures suites { (text : List ℕ) (ps : List Fields) (fault : ConfigFault) → (length text ≤ config_limit) × (ps ≢ []) × Spells text ps → config_fault ps ≡ Some fault → config_in text ≡ Err fault }
+{}
+
+/// A text is read as a new configuration if and only if it is that configuration and no fault of a new one applies. Nothing
+/// is done: the law is the contract.
+pub fn new_configurations_are_read()
+    ensures kept { (text : List ℕ) (config : ConfigValue) → strict_config_in text ≡ Ok config → config_in text ≡ Ok config }
+    ensures refused { (text : List ℕ) (ps : List Fields) (fault : ConfigFault) → paragraphs_in text config_limit ≡ Ok ps → strict_fault ps ≡ Some fault → strict_config_in text ≡ Err fault }
+{}
+
+/// Whatever a configuration says, a file may have 4 MiB, and none may have more than 1 GiB. Nothing is done: the law is the
+/// contract.
+pub fn largest_files_are_bounded()
+    ensures least { (config : ConfigValue) → most_size ≤ largest config }
+    ensures greatest { (config : ConfigValue) → largest config ≤ greatest_size }
 {}
 
 /// No two suites of a configuration claim the same distribution name. Nothing is done: the law is the contract.

@@ -2,15 +2,17 @@
 
 ghost use Rattle.std.specs.Prelude.{◌≡◌, IfOk, IfErr, map, unwrap_or, codes};
 ghost use Rattle.std.specs.Option.{option_map};
-ghost use Rattle.rules.specs.Paragraphs.{days, first_line, words, lines_behind, suite_of, names_claimed};
+ghost use Rattle.para.specs.Field.{field_value};
+ghost use Rattle.rules.specs.Paragraphs.{days, mebibytes, size_said, first_line, words, lines_behind, suite_of, names_claimed};
 ghost use Rattle.rules.specs.Uploaders.{rules_in};
 
 use crate::days::{Days, days_in};
 use crate::fault::ConfigFault;
 use crate::names::texts_of;
+use crate::size::{Mebibytes, mebibytes_in};
 use crate::suite::Suite;
 use crate::uploader::{Rule, rules_of};
-use para::{Listed, Paragraph, Text, fold};
+use para::{Field, Listed, Paragraph, Text, fold};
 use std::alloc::{AllocError, Global};
 
 /// The first line of the field, if it is there.
@@ -57,6 +59,28 @@ pub fn days_of(paragraph: &Paragraph<'_>, name: &str) -> Option<Days>
 {
     match first_line(paragraph, name) {
         Some(line) => days_in(line),
+        None => None,
+    }
+}
+
+/// The number of MiB that a field says: one line, 4 to 1024.
+#[tactic(auto, unfolding(crate::specs::Paragraphs::size_said))]
+pub fn size_said(field: &Field<'_>) -> Option<Mebibytes>
+    ensures { result ≡ size_said (field_value field.now) }
+{
+    if !field.more.is_empty() {
+        return None;
+    }
+    mebibytes_in(field.first)
+}
+
+/// The number of MiB of the field, if it is there and says one.
+#[tactic(auto, unfolding(crate::specs::Paragraphs::mebibytes))]
+pub fn mebibytes_of(paragraph: &Paragraph<'_>, name: &str) -> Option<Mebibytes>
+    ensures { result ≡ mebibytes name.now paragraph.now }
+{
+    match paragraph.get(name) {
+        Some(field) => size_said(field),
         None => None,
     }
 }

@@ -4,7 +4,7 @@ use Rattle.std.specs.Prelude.{All, AllPairs, Contains}
 use Rattle.std.specs.List.{list_any, list_all}
 use Rattle.std.specs.Option.{option_map_or}
 use Rattle.std.proofs.lemmas.List.Elements.{All-head}
-use Rattle.records.specs.Records.{dsc_in}
+use Rattle.records.specs.Records.{dsc_in, dsc_within}
 use Rattle.records.specs.Values.{ChangesValue, DscValue}
 use Rattle.sums.proofs.Booleans.{neither, passed}
 use Rattle.sums.proofs.Members.{here, there, no_member, any_false, all_true, by_name}
@@ -17,7 +17,7 @@ use Rattle.suites.specs.Verdict.{by_print, match_ok, differs_from_dsc, has_bad_d
 use Rattle.suites.specs.declared.items.SourcePart.{SourcePart}
 use Rattle.suites.proofs.ListMembers.{from_filter, to_filter, from_zip}
 use Rattle.suites.proofs.ListedFiles.{dsc_entries, IsDscListed, IsListedDsc}
-use Rattle.suites.proofs.RecordTexts.{dsc-names}
+use Rattle.suites.proofs.RecordTexts.{dsc-names, dsc-within}
 use Rattle.suites.proofs.Prints.{same_print-equal}
 use Rattle.suites.proofs.Suffixes.{dsc-no_sidecar, plain-no_sidecar}
 use Rattle.suites.proofs.UploadFiles.{ListsAgree, entry_named-Contains}
@@ -87,11 +87,11 @@ pub is_dsc_listed : (u : UploadValue) (source : Option SourcePart) → IsDscOf u
 is_dsc_listed u None h = tt
 is_dsc_listed u (Some s) h = dsc_listed u s h
 
-good_dsc : (u : UploadValue) (s : SourcePart) → IsDscOf u (Some s) → IsRead s → has_bad_dsc u ≡ false → differs_from_dsc u.changes s.part.entry.now.name s.dsc ≡ false
+good_dsc : (most : ℕ) (u : UploadValue) (s : SourcePart) → IsDscOf u (Some s) → IsRead s → has_bad_dsc most u ≡ false → differs_from_dsc u.changes s.part.entry.now.name s.dsc ≡ false
 unfolding has_bad_dsc
-good_dsc u s of read h =
-    at_ok (differs_from_dsc u.changes s.part.entry.now.name) s.dsc (dsc_in s.part.text.now) read
-    (any_false (λ (part : Part). match_ok (dsc_in part.1) (differs_from_dsc u.changes part.0.name)) (dsc_parts u) (part_of s.part) h (dsc_member u s of))
+good_dsc most u s of read h =
+    dsc-within most s.part.text.now s.dsc (differs_from_dsc u.changes s.part.entry.now.name) read
+    (any_false (λ (part : Part). match_ok (dsc_within most part.1) (differs_from_dsc u.changes part.0.name)) (dsc_parts u) (part_of s.part) h (dsc_member u s of))
 
 none_missing : (shelves : ShelvesValue) (u : UploadValue) (s : SourcePart) → IsDscOf u (Some s) → IsRead s → lacks_source_file by_print (pool shelves) u ≡ false
     → (f : Entry) → Contains s.dsc.entries f → is_missing_file by_print (pool shelves) u.changes f ≡ false
@@ -107,9 +107,9 @@ none_taken : (shelves : ShelvesValue) (u : UploadValue) → has_other_contents b
 unfolding has_other_contents
 none_taken shelves u h e listed = any_false (is_taken by_print (pool shelves) u.changes) u.changes.entries e h listed
 
-pub lists_agree : (shelves : ShelvesValue) (u : UploadValue) (source : Option SourcePart) → AllPairs (λ a b. a.name ≢ b.name) u.changes.entries → IsDscOf u source → All IsRead (option_to_list source)
-    → has_bad_dsc u ≡ false → lacks_source_file by_print (pool shelves) u ≡ false → has_other_contents by_print (pool shelves) u ≡ false → ListsAgree shelves u.changes (dsc_entries source)
-lists_agree shelves u None names of read good there free = record {
+pub lists_agree : (most : ℕ) (shelves : ShelvesValue) (u : UploadValue) (source : Option SourcePart) → AllPairs (λ a b. a.name ≢ b.name) u.changes.entries → IsDscOf u source → All IsRead (option_to_list source)
+    → has_bad_dsc most u ≡ false → lacks_source_file by_print (pool shelves) u ≡ false → has_other_contents by_print (pool shelves) u ≡ false → ListsAgree shelves u.changes (dsc_entries source)
+lists_agree most shelves u None names of read good there free = record {
   changes = names;
   dsc = λ i j d below within. absurd (omega arith);
   both = λ e f p q. no_member f q;
@@ -117,9 +117,9 @@ lists_agree shelves u None names of read good there free = record {
   there = λ f q. no_member f q;
   free = none_taken shelves u free;
 }
-lists_agree shelves u (Some s) names of read good there free =
+lists_agree most shelves u (Some s) names of read good there free =
     let is_read : IsRead s = All-head IsRead s [] read in
-    let same = good_dsc u s of is_read good in
+    let same = good_dsc most u s of is_read good in
     let differ = dsc-names s.part.text.now s.dsc is_read in
     record {
       changes = names;

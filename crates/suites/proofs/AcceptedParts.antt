@@ -5,7 +5,7 @@ use Rattle.std.specs.List.{find}
 use Rattle.std.proofs.lemmas.Bool.{eqb-true, not-false}
 use Rattle.std.proofs.lemmas.List.Elements.{All-contains}
 use Rattle.std.proofs.lemmas.Slice.Eq.{bytes_eq-Decides}
-use Rattle.records.specs.Records.{dsc_in, is_among, sidecar_in}
+use Rattle.records.specs.Records.{dsc_in, dsc_within, is_among, sidecar_in}
 use Rattle.records.specs.Values.{ChangesValue, DscValue, SidecarValue}
 use Rattle.rules.specs.Judgement.{has_foreign_architecture}
 use Rattle.rules.specs.Suites.{keeps_architecture}
@@ -20,6 +20,7 @@ use Rattle.suites.specs.Upload.{IsTextOf, IsUpload, Part, UploadValue, dsc_parts
 use Rattle.suites.specs.Verdict.{differs_from_dsc, differs_from_sidecar, dsc_file, has_bad_dsc, has_bad_listing, has_bad_sidecar, has_source, match_ok, names_with, sidecar_file, stems}
 use Rattle.suites.proofs.AcceptedLists.{at_ok}
 use Rattle.suites.proofs.ListMembers.{from_filter}
+use Rattle.suites.proofs.RecordTexts.{dsc-within}
 use Rattle.suites.proofs.Refusals.{few}
 use Rattle.suites.proofs.Stems.{among_stems, front_of_joined, joined, paired}
 use Rattle.suites.proofs.UploadFiles.{entry_named-Contains}
@@ -38,11 +39,12 @@ kept_architecture c s name none among =
     ∙ passed (keeps_architecture s a.0) (any_false (λ (a : List ℕ). not (keeps_architecture s a)) c.architectures a.0 none a.1)
 
 -- each .dsc and each sidecar says what the .changes says
-pub good_dsc : (u : UploadValue) (p : Part) (d : DscValue) → Contains (dsc_parts u) p → dsc_in p.1 ≡ Ok d → has_bad_dsc u ≡ false → differs_from_dsc u.changes p.0.name d ≡ false
+pub good_dsc : (most : ℕ) (u : UploadValue) (p : Part) (d : DscValue) → Contains (dsc_parts u) p → dsc_in p.1 ≡ Ok d → has_bad_dsc most u ≡ false
+    → differs_from_dsc u.changes p.0.name d ≡ false
 unfolding has_bad_dsc
-good_dsc u p d h read good =
-    at_ok (differs_from_dsc u.changes p.0.name) d (dsc_in p.1) read
-    (any_false (λ (part : Part). match_ok (dsc_in part.1) (differs_from_dsc u.changes part.0.name)) (dsc_parts u) p good h)
+good_dsc most u p d h read good =
+    dsc-within most p.1 d (differs_from_dsc u.changes p.0.name) read
+    (any_false (λ (part : Part). match_ok (dsc_within most part.1) (differs_from_dsc u.changes part.0.name)) (dsc_parts u) p good h)
 
 -- the .dsc has the source and the version of the .changes, and its own name
 pub record IsOwnDsc (c : ChangesValue) (name : List ℕ) (d : DscValue) : Type 0 where

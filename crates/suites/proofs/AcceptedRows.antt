@@ -6,6 +6,7 @@ use Rattle.std.specs.Prelude.{is_none}
 use Rattle.records.specs.Values.{ChangesValue}
 use Rattle.rules.proofs.JudgeLemmas.{keeps_component-accepted}
 use Rattle.rules.specs.Judgement.{component, has_foreign_architecture, rule_rows, suite_of, suite_rows}
+use Rattle.rules.specs.Sizes.{largest}
 use Rattle.rules.specs.Suites.{keeps_component}
 use Rattle.rules.specs.Values.{ConfigValue}
 use Rattle.rules.specs.Verdicts.{Row, first_row}
@@ -24,7 +25,7 @@ pub record IsAccepted (config : ConfigValue) (shelves : ShelvesValue) (u : Uploa
   pub claimed : suite_of config u.changes ≡ Some suite
   pub architectures : has_foreign_architecture u.changes suite ≡ false
   pub component : keeps_component suite (component u.changes) ≡ true
-  pub rows : NoRowApplies shelves u
+  pub rows : NoRowApplies (largest config) shelves u
 
 -- a row that refuses, before others that accept
 passed : (b : Bool) (v all rest more : Verdict) → v ≢ verdict.Accepted → cond b v all ≡ verdict.Accepted
@@ -49,12 +50,12 @@ none_foreign s c e = (row_passed (has_foreign_architecture c s) verdict.ForeignA
 
 pub is_accepted : (config : ConfigValue) (shelves : ShelvesValue) (u : UploadValue) → verdict_on config shelves u ≡ verdict.Accepted → IsAccepted config shelves u
 is_accepted config shelves u e =
-    let both = both_accept (rule_rows config u.changes) (upload_rows by_print (pool shelves) u) (rule_rows_refuse config u.changes) e in
+    let both = both_accept (rule_rows config u.changes) (upload_rows by_print (pool shelves) (largest config) u) (rule_rows_refuse config u.changes) e in
     let s = claimed_by u.changes (suite_of config u.changes) both.0 in
     record {
       suite = s.0;
       claimed = s.1;
       architectures = none_foreign s.0 u.changes s.2;
       component = keeps_component-accepted s.0 u.changes (sym s.2);
-      rows = no_row_applies shelves u both.1;
+      rows = no_row_applies (largest config) shelves u both.1;
     }

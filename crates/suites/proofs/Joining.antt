@@ -35,18 +35,18 @@ pub row_passed : (b : Bool) (v rest : Verdict) → number_of v ≢ 0 → cond b 
 row_passed true v rest refusal e = absurd (refusal (ap number_of e))
 row_passed false v rest refusal e = (refl, e)
 
--- no row of the verdicts 5 to 9 applies
-pub record NoRowApplies (shelves : ShelvesValue) (u : UploadValue) : Type 0 where
+-- no row of the verdicts 5 to 9 applies, if a file has at most `most` bytes
+pub record NoRowApplies (most : ℕ) (shelves : ShelvesValue) (u : UploadValue) : Type 0 where
   pub listing : has_bad_listing u.changes ≡ false
-  pub dsc : has_bad_dsc u ≡ false
+  pub dsc : has_bad_dsc most u ≡ false
   pub sidecar : has_bad_sidecar u ≡ false
   pub missing : lacks_source_file by_print (pool shelves) u ≡ false
   pub taken : has_other_contents by_print (pool shelves) u ≡ false
 
-pub no_row_applies : (shelves : ShelvesValue) (u : UploadValue) → first_row (upload_rows by_print (pool shelves) u) ≡ verdict.Accepted → NoRowApplies shelves u
-no_row_applies shelves u h =
+pub no_row_applies : (most : ℕ) (shelves : ShelvesValue) (u : UploadValue) → first_row (upload_rows by_print (pool shelves) most u) ≡ verdict.Accepted → NoRowApplies most shelves u
+no_row_applies most shelves u h =
     let listing = row_passed (has_bad_listing u.changes) verdict.BadListing _ (λ e. absurd (omega (arith, e))) h in
-    let dsc = row_passed (has_bad_dsc u) verdict.BadDsc _ (λ e. absurd (omega (arith, e))) listing.1 in
+    let dsc = row_passed (has_bad_dsc most u) verdict.BadDsc _ (λ e. absurd (omega (arith, e))) listing.1 in
     let sidecar = row_passed (has_bad_sidecar u) verdict.BadSidecar _ (λ e. absurd (omega (arith, e))) dsc.1 in
     let missing = row_passed (lacks_source_file by_print (pool shelves) u) verdict.NotInPool _ (λ e. absurd (omega (arith, e))) sidecar.1 in
     let taken = row_passed (has_other_contents by_print (pool shelves) u) verdict.OtherContents verdict.Accepted (λ e. absurd (omega (arith, e))) missing.1 in
@@ -91,12 +91,12 @@ agreed_with shelves u entries files lists sound given path a b p q =
     ]
 
 -- THE ITEMS of an accepted upload may join what is shown, in any suite.
-pub may_join : (shelves : ShelvesValue) (u : UploadValue) (found : Parts) (suite : ℕ) → AreSound shelves → IsUpload u → AreParts u found
-    → first_row (upload_rows by_print (pool shelves) u) ≡ verdict.Accepted
+pub may_join : (most : ℕ) (shelves : ShelvesValue) (u : UploadValue) (found : Parts) (suite : ℕ) → AreSound shelves → IsUpload u → AreParts u found
+    → first_row (upload_rows by_print (pool shelves) most u) ≡ verdict.Accepted
     → MayJoin shelves (map (standing suite) (map item_of (items_of (λ e. e.print) u (component u.changes))))
-may_join shelves u found suite sound upload parts accepted =
-    let rows = no_row_applies shelves u accepted in
-    let lists = lists_agree shelves u found.source upload.names parts.source parts.dsc rows.dsc rows.missing rows.taken in
+may_join most shelves u found suite sound upload parts accepted =
+    let rows = no_row_applies most shelves u accepted in
+    let lists = lists_agree most shelves u found.source upload.names parts.source parts.dsc rows.dsc rows.missing rows.taken in
     subst (λ items. MayJoin shelves (map (standing suite) (map item_of items))) (sym (items_from_parts u (component u.changes) found parts)) (record {
       apart = items_apart suite u.changes (component u.changes) found.source found.binaries.items (no_twins u found.binaries.items parts.binaries parts.sidecars rows.sidecar);
       agreed = subst (λ items. AreAgreed (files_of (values shelves) ++ files_of items))

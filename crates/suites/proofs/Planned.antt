@@ -4,6 +4,7 @@ use Rattle.std.specs.List.{AllByRecursion}
 use Rattle.std.specs.Option.{option_map_or}
 use Rattle.records.specs.Values.{ChangesValue}
 use Rattle.rules.specs.Judgement.{rule_rows, suite_rows, suite_of, component}
+use Rattle.rules.specs.Sizes.{largest}
 use Rattle.rules.specs.Suites.{claiming}
 use Rattle.rules.specs.Values.{ConfigValue}
 use Rattle.rules.specs.Verdicts.{Row, first_row, number_of}
@@ -61,12 +62,12 @@ first_refused (row ∷ rows) more h = refused_row row.0 row.1 (first_row rows) (
 pub refused_by_rules : (config : ConfigValue) (shelves : ShelvesValue) (u : UploadValue) (v : Verdict) → v ≡ first_row (rule_rows config u.changes) → v ≢ verdict.Accepted
     → verdict_on config shelves u ≡ v
 refused_by_rules config shelves u v h refusal =
-    first_refused (rule_rows config u.changes) (upload_rows by_print (pool shelves) u) (λ e. refusal (h ∙ e)) ∙ sym h
+    first_refused (rule_rows config u.changes) (upload_rows by_print (pool shelves) (largest config) u) (λ e. refusal (h ∙ e)) ∙ sym h
 
 pub left_to_lists : (config : ConfigValue) (shelves : ShelvesValue) (u : UploadValue) (v : Verdict) → first_row (rule_rows config u.changes) ≡ verdict.Accepted
-    → first_row (upload_rows by_print (pool shelves) u) ≡ v → verdict_on config shelves u ≡ v
+    → first_row (upload_rows by_print (pool shelves) (largest config) u) ≡ v → verdict_on config shelves u ≡ v
 left_to_lists config shelves u v h e =
-    first_after (rule_rows config u.changes) (upload_rows by_print (pool shelves) u) (rule_rows_refuse config u.changes) h ∙ e
+    first_after (rule_rows config u.changes) (upload_rows by_print (pool shelves) (largest config) u) (rule_rows_refuse config u.changes) h ∙ e
 
 -- ---- the shelves
 

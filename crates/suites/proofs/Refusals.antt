@@ -1,5 +1,5 @@
 -- What refuses an upload, and the records of one that is not refused.
-use Rattle.std.proofs.Common.{◌≡◌, ℕ, ◌+◌, ◌<◌, ◌≤◌, Bool, true, false, cond, not, ◌||◌, List, [], ◌∷◌, ◌++◌, map, Option, Some, None, Result, Ok, length, take, get_or, refl, sym, ap, ◌∙◌, subst, arith, eqb}
+use Rattle.std.proofs.Common.{◌≡◌, ℕ, ◌+◌, ◌<◌, ◌≤◌, Bool, true, false, cond, not, ◌||◌, List, [], ◌∷◌, ◌++◌, map, Option, Some, None, Result, Ok, Err, length, take, get_or, refl, sym, ap, ◌∙◌, subst, arith, eqb}
 use Rattle.std.proofs.lemmas.Bool.{or_from, or_left, or_right, or_parts, not-false, eqb-true}
 use Rattle.std.proofs.lemmas.List.{map_push, take_more}
 use Rattle.std.proofs.lemmas.List.Elements.{All-nil, All-cons, All-head, All-tail, All-same, All-push}
@@ -8,8 +8,8 @@ use Rattle.std.specs.List.{list_any, filter, filter_map, cons_option, zip, slice
 use Rattle.std.specs.Option.{MatchOption, option_map_or}
 use Rattle.std.specs.Prelude.{codes}
 use Rattle.std.specs.Result.{result_ok, MatchResult}
-use Rattle.records.specs.Records.{dsc_in, sidecar_in}
-use Rattle.records.specs.Values.{ChangesValue}
+use Rattle.records.specs.Records.{dsc_in, dsc_within, sidecar_in}
+use Rattle.records.specs.Values.{ChangesValue, DscValue}
 use Rattle.rules.specs.Verdicts.{first_row}
 use Rattle.rules.specs.declared.verdict.Verdict.{Verdict}
 use Rattle.rules.specs.declared.verdict.Verdict.TheVariants as verdict
@@ -18,12 +18,13 @@ use Rattle.sums.specs.declared.print.Print.{Print}
 use Rattle.suites.specs.Judging.{part_of, is_bad_dsc, is_bad_sidecar, IsSourcePart, IsBinaryPart, AreBinaryParts, IsSource, AreBinaries, AreParts}
 use Rattle.suites.specs.Pool.{PoolWith}
 use Rattle.suites.specs.Upload.{UploadValue, Part, has_suffix, parts_with, dsc_parts, sidecar_parts}
-use Rattle.suites.specs.Verdict.{names_of, names_with, has_source, has_bad_listing, match_ok, has_bad_dsc, have_twins, has_bad_sidecar, is_missing_file, lacks_source_file, is_taken, has_other_contents, by_print, upload_rows}
+use Rattle.suites.specs.Verdict.{names_of, names_with, has_source, has_bad_listing, match_ok, differs_from_dsc, has_bad_dsc, have_twins, has_bad_sidecar, is_missing_file, lacks_source_file, is_taken, has_other_contents, by_print, upload_rows}
 use Rattle.suites.specs.declared.items.SourcePart.{SourcePart}
 use Rattle.suites.specs.declared.items.BinaryPart.{BinaryPart}
 use Rattle.suites.specs.declared.upload.Part as parts
 use Rattle.suites.specs.declared.verdict.Parts.{Parts}
 use Rattle.suites.proofs.ListTests.{list_any-map}
+use Rattle.suites.proofs.RecordTexts.{dsc-within_in}
 
 pub none_case : {X : Type 0} (o : Option X) (P : Type 0) (Q : X → Type 0) → MatchOption o P Q → o ≡ None → P
 none_case None P Q h e = h
@@ -90,6 +91,21 @@ sidecars_good u c ps found same listed known none = record {
 
 -- ---- the .dsc of an upload
 
+was_read : {X E : Type 0} (r : Result X E) (x : X) → result_ok r ≡ Some x → r ≡ Ok x
+was_read (Ok y) x h = let same : y ≡ x = cc in ap Ok same
+was_read (Err e) x h = cc
+
+-- a text that is read within the limit as a .dsc, which says what the .changes says
+pub good_part : (most : ℕ) (c : ChangesValue) (part : parts.Part) (d : DscValue) → result_ok (dsc_within most part.text.now) ≡ Some d
+    → differs_from_dsc c part.entry.now.name d ≡ false → IsSourcePart most c (part_of part) (record { part = part; dsc = d })
+good_part most c part d read same =
+    let is = was_read (dsc_within most part.text.now) d read in
+    record {
+      part = refl;
+      dsc = dsc-within_in most part.text.now d is;
+      good = ap (λ r. match_ok r (differs_from_dsc c part.entry.now.name)) is ∙ same;
+    }
+
 few_step : (b : Bool) (n : List ℕ) (p : Part) (ps : List Part) (ns : List (List ℕ)) → length ps ≤ length ns → length (cond b (p ∷ ps) ps) ≤ length (cond b (n ∷ ns) ns)
 few_step true n p ps ns h = omega arith
 few_step false n p ps ns h = h
@@ -127,31 +143,31 @@ only_dsc : (u : UploadValue) (ps : List parts.Part) (p : parts.Part) → has_bad
     → Some p ≡ slice_get ps 0 → dsc_parts u ≡ part_of p ∷ []
 only_dsc u ps p good listed first = sym listed ∙ only part_of ps p (subst (λ (qs : List Part). length qs ≤ 1) (sym listed) (one_dsc u good)) first
 
-pub dsc_refused : (u : UploadValue) (c : ChangesValue) (ps : List parts.Part) (p : parts.Part) → has_bad_listing u.changes ≡ false → c ≡ u.changes
-    → map part_of ps ≡ dsc_parts u → Some p ≡ slice_get ps 0 → is_bad_dsc c (part_of p) ≡ true → has_bad_dsc u ≡ true
+pub dsc_refused : (most : ℕ) (u : UploadValue) (c : ChangesValue) (ps : List parts.Part) (p : parts.Part) → has_bad_listing u.changes ≡ false → c ≡ u.changes
+    → map part_of ps ≡ dsc_parts u → Some p ≡ slice_get ps 0 → is_bad_dsc most c (part_of p) ≡ true → has_bad_dsc most u ≡ true
 unfolding has_bad_dsc
-dsc_refused u c ps p good same listed first bad =
-    ap (list_any (is_bad_dsc u.changes)) (only_dsc u ps p good listed first)
-    ∙ or_left _ _ (ap (λ k. is_bad_dsc k (part_of p)) (sym same) ∙ bad)
+dsc_refused most u c ps p good same listed first bad =
+    ap (list_any (is_bad_dsc most u.changes)) (only_dsc u ps p good listed first)
+    ∙ or_left _ _ (ap (λ k. is_bad_dsc most k (part_of p)) (sym same) ∙ bad)
 
-pub dsc_good : (u : UploadValue) (c : ChangesValue) (ps : List parts.Part) (p : parts.Part) (s : SourcePart) → has_bad_listing u.changes ≡ false → c ≡ u.changes
-    → map part_of ps ≡ dsc_parts u → Some p ≡ slice_get ps 0 → IsSourcePart c (part_of p) s → IsSource u (Some s)
+pub dsc_good : (most : ℕ) (u : UploadValue) (c : ChangesValue) (ps : List parts.Part) (p : parts.Part) (s : SourcePart) → has_bad_listing u.changes ≡ false → c ≡ u.changes
+    → map part_of ps ≡ dsc_parts u → Some p ≡ slice_get ps 0 → IsSourcePart most c (part_of p) s → IsSource most u (Some s)
 unfolding has_bad_dsc
-dsc_good u c ps p s good same listed first is = record {
+dsc_good most u c ps p s good same listed first is = record {
   parts = only_dsc u ps p good listed first ∙ ap (λ q. q ∷ []) (sym is.part);
   dsc = All-cons (λ s. dsc_in s.part.text.now ≡ Ok s.dsc) s [] (ap (λ (q : Part). dsc_in q.1) is.part ∙ is.dsc) (All-nil (λ s. dsc_in s.part.text.now ≡ Ok s.dsc));
-  good = ap (list_any (is_bad_dsc u.changes)) (only_dsc u ps p good listed first)
-      ∙ or_from _ _ (ap (λ k. is_bad_dsc k (part_of p)) (sym same) ∙ is.good) refl;
+  good = ap (list_any (is_bad_dsc most u.changes)) (only_dsc u ps p good listed first)
+      ∙ or_from _ _ (ap (λ k. is_bad_dsc most k (part_of p)) (sym same) ∙ is.good) refl;
 }
 
-pub no_dsc : (u : UploadValue) (ps : List parts.Part) → map part_of ps ≡ dsc_parts u → None ≡ slice_get ps 0 → IsSource u None
+pub no_dsc : (most : ℕ) (u : UploadValue) (ps : List parts.Part) → map part_of ps ≡ dsc_parts u → None ≡ slice_get ps 0 → IsSource most u None
 unfolding has_bad_dsc
-no_dsc u ps listed none =
+no_dsc most u ps listed none =
     let empty = sym listed ∙ nothing part_of ps none in
     record {
       parts = empty;
       dsc = All-nil (λ s. dsc_in s.part.text.now ≡ Ok s.dsc);
-      good = ap (list_any (is_bad_dsc u.changes)) empty;
+      good = ap (list_any (is_bad_dsc most u.changes)) empty;
     }
 
 -- ---- the files of the .dsc and of the .changes
@@ -160,12 +176,12 @@ or_nothing : (b : Bool) → (b || false) ≡ b
 or_nothing true = refl
 or_nothing false = refl
 
-lacks_from : (files : PoolWith Print) (u : UploadValue) (found : Option SourcePart) → IsSource u found
+lacks_from : (most : ℕ) (files : PoolWith Print) (u : UploadValue) (found : Option SourcePart) → IsSource most u found
     → lacks_source_file by_print files u ≡ option_map_or (λ s. list_any (is_missing_file by_print files u.changes) s.dsc.entries) found false
 unfolding lacks_source_file
-lacks_from files u None is =
+lacks_from most files u None is =
     ap (list_any (λ (part : Part). match_ok (dsc_in part.1) (λ d. list_any (is_missing_file by_print files u.changes) d.entries))) is.parts
-lacks_from files u (Some s) is =
+lacks_from most files u (Some s) is =
     ap (list_any (λ (part : Part). match_ok (dsc_in part.1) (λ d. list_any (is_missing_file by_print files u.changes) d.entries))) is.parts
     ∙ or_nothing _
     ∙ ap (λ r. match_ok r (λ d. list_any (is_missing_file by_print files u.changes) d.entries)) (All-head (λ s. dsc_in s.part.text.now ≡ Ok s.dsc) s [] is.dsc)
@@ -180,18 +196,18 @@ by_pool files c found = first_row (
     ∷ []
     )
 
-at_changes : (files : PoolWith Print) (u : UploadValue) (found : Option SourcePart) → IsSource u found
+at_changes : (most : ℕ) (files : PoolWith Print) (u : UploadValue) (found : Option SourcePart) → IsSource most u found
     → cond (lacks_source_file by_print files u) verdict.NotInPool (cond (has_other_contents by_print files u) verdict.OtherContents verdict.Accepted) ≡ by_pool files u.changes found
 unfolding has_other_contents
-at_changes files u found is =
-    ap (λ b. cond b verdict.NotInPool (cond (list_any (is_taken by_print files u.changes) u.changes.entries) verdict.OtherContents verdict.Accepted)) (lacks_from files u found is)
+at_changes most files u found is =
+    ap (λ b. cond b verdict.NotInPool (cond (list_any (is_taken by_print files u.changes) u.changes.entries) verdict.OtherContents verdict.Accepted)) (lacks_from most files u found is)
 
-pub pool_row : (files : PoolWith Print) (u : UploadValue) (c : ChangesValue) (found : Option SourcePart) (binaries : List BinaryPart) → c ≡ u.changes → has_bad_listing u.changes ≡ false
-    → IsSource u found → AreBinaries u binaries → first_row (upload_rows by_print files u) ≡ by_pool files c found
-pool_row files u c found binaries same listing source sidecars =
+pub pool_row : (most : ℕ) (files : PoolWith Print) (u : UploadValue) (c : ChangesValue) (found : Option SourcePart) (binaries : List BinaryPart) → c ≡ u.changes → has_bad_listing u.changes ≡ false
+    → IsSource most u found → AreBinaries u binaries → first_row (upload_rows by_print files most u) ≡ by_pool files c found
+pool_row most files u c found binaries same listing source sidecars =
     (λ i. cond (listing i) verdict.BadListing (cond (source.good i) verdict.BadDsc (cond (sidecars.good i) verdict.BadSidecar
     (cond (lacks_source_file by_print files u) verdict.NotInPool (cond (has_other_contents by_print files u) verdict.OtherContents verdict.Accepted)))))
-    ∙ at_changes files u found source ∙ ap (λ k. by_pool files k found) (sym same)
+    ∙ at_changes most files u found source ∙ ap (λ k. by_pool files k found) (sym same)
 
-pub are_parts : (u : UploadValue) (found : Parts) → IsSource u found.source → AreBinaries u found.binaries.items → AreParts u found
-are_parts u found source sidecars = record { source = source.parts; dsc = source.dsc; binaries = sidecars.parts; sidecars = sidecars.sidecars }
+pub are_parts : (most : ℕ) (u : UploadValue) (found : Parts) → IsSource most u found.source → AreBinaries u found.binaries.items → AreParts u found
+are_parts most u found source sidecars = record { source = source.parts; dsc = source.dsc; binaries = sidecars.parts; sidecars = sidecars.sidecars }

@@ -9,6 +9,7 @@ use Rattle.std.proofs.lemmas.Option.{same_Some}
 use Rattle.records.specs.Records.{dsc_in, sidecar_in}
 use Rattle.records.specs.Values.{ChangesValue, DscValue, SidecarValue}
 use Rattle.rules.specs.Judgement.{component, suite_of}
+use Rattle.rules.specs.Sizes.{largest}
 use Rattle.rules.specs.Suites.{claiming, keeps_architecture, keeps_component}
 use Rattle.rules.specs.Values.{ConfigValue}
 use Rattle.rules.specs.declared.suite.Suite.{Suite}
@@ -191,7 +192,7 @@ module _ (config : ConfigValue) (shelves : ShelvesValue) (u : UploadValue) (uplo
   unfolding has_source
   source_true p d h read =
       let part = part_from (codes ".dsc") u p h in
-      let own = own_dsc u.changes p.0.name d (good_dsc u p d h read accepted.rows.dsc) in (
+      let own = own_dsc u.changes p.0.name d (good_dsc (largest config) u p d h read accepted.rows.dsc) in (
         (d, is_source u.changes (component u.changes) p d read own (dsc_print u p upload part.0 part.1)),
         kept_at config.suites accepted.suite (printed (on_shelf place (source_item (λ e. e.print) u.changes (component u.changes) p d))) standing_there accepted.component
             (kept_architecture u.changes accepted.suite (codes "source") accepted.architectures (with_source u p h accepted.rows.listing)),

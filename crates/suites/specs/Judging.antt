@@ -1,8 +1,8 @@
 -- What judging an upload gives: its records, or the verdict by which it is refused.
-use Rattle.std.specs.Prelude.{◌≡◌, ◌≢◌, Bool, false, List, map, All, Option, option_map, option_to_list, Ok}
+use Rattle.std.specs.Prelude.{◌≡◌, ◌≢◌, ℕ, Bool, false, List, map, All, Option, option_map, option_to_list, Ok}
 use Rattle.records.specs.Values.{ChangesValue}
 use Rattle.std.specs.List.{list_any}
-use Rattle.records.specs.Records.{dsc_in, sidecar_in}
+use Rattle.records.specs.Records.{dsc_in, dsc_within, sidecar_in}
 use Rattle.rules.specs.Verdicts.{first_row}
 use Rattle.rules.specs.declared.verdict.Verdict.TheVariants as verdict
 use Rattle.suites.specs.Shelves.{ShelvesValue, pool}
@@ -19,19 +19,19 @@ use Rattle.suites.specs.declared.verdict.Judged.TheVariants.{Accepted, Refused}
 abbrev pub part_of : parts.Part → Part
 part_of p = (p.entry.now, p.text.now)
 
--- the text is not a .dsc, or is one that says other than the .changes
-abbrev pub is_bad_dsc : ChangesValue → Part → Bool
-is_bad_dsc c part = match_ok (dsc_in part.1) (differs_from_dsc c part.0.name)
+-- the text is not a .dsc of files of at most `most` bytes, or is one that says other than the .changes
+abbrev pub is_bad_dsc : ℕ → ChangesValue → Part → Bool
+is_bad_dsc most c part = match_ok (dsc_within most part.1) (differs_from_dsc c part.0.name)
 
 -- the text is not a sidecar, or is not one that the .changes may have
 abbrev pub is_bad_sidecar : ChangesValue → Part → Bool
 is_bad_sidecar c part = match_ok (sidecar_in part.1) (differs_from_sidecar c part.0.name)
 
--- a part with the .dsc that it is, which says what the .changes says
-pub record IsSourcePart (c : ChangesValue) (p : Part) (found : SourcePart) : Type 0 where
+-- a part with the .dsc that it is, which lists files of at most `most` bytes and says what the .changes says
+pub record IsSourcePart (most : ℕ) (c : ChangesValue) (p : Part) (found : SourcePart) : Type 0 where
   pub part : part_of found.part ≡ p
   pub dsc : dsc_in p.1 ≡ Ok found.dsc
-  pub good : is_bad_dsc c p ≡ false
+  pub good : is_bad_dsc most c p ≡ false
 
 -- a part with the sidecar that it is, which the .changes may have
 pub record IsBinaryPart (c : ChangesValue) (p : Part) (found : BinaryPart) : Type 0 where
@@ -46,10 +46,10 @@ pub record AreBinaryParts (c : ChangesValue) (ps : List Part) (found : List Bina
   pub good : list_any (is_bad_sidecar c) ps ≡ false
 
 -- the .dsc of an upload, if it has one, and nothing is wrong with it
-pub record IsSource (u : UploadValue) (found : Option SourcePart) : Type 0 where
+pub record IsSource (most : ℕ) (u : UploadValue) (found : Option SourcePart) : Type 0 where
   pub parts : dsc_parts u ≡ option_to_list (option_map (λ s. part_of s.part) found)
   pub dsc : All (λ s. dsc_in s.part.text.now ≡ Ok s.dsc) (option_to_list found)
-  pub good : has_bad_dsc u ≡ false
+  pub good : has_bad_dsc most u ≡ false
 
 -- the sidecars of an upload, and nothing is wrong with them
 pub record AreBinaries (u : UploadValue) (found : List BinaryPart) : Type 0 where
@@ -65,6 +65,6 @@ pub record AreParts (u : UploadValue) (found : Parts) : Type 0 where
   pub sidecars : All (λ b. sidecar_in b.part.text.now ≡ Ok b.sidecar) found.binaries.items
 
 -- Accepted with its records, or refused by the first row of the verdicts 5 to 9 that applies.
-abbrev pub IsJudged : ShelvesValue → UploadValue → Judged → Type 0
-IsJudged shelves u (Accepted found) = (first_row (upload_rows by_print (pool shelves) u) ≡ verdict.Accepted) × AreParts u found
-IsJudged shelves u (Refused v) = (first_row (upload_rows by_print (pool shelves) u) ≡ v) × (v ≢ verdict.Accepted)
+abbrev pub IsJudged : ℕ → ShelvesValue → UploadValue → Judged → Type 0
+IsJudged most shelves u (Accepted found) = (first_row (upload_rows by_print (pool shelves) most u) ≡ verdict.Accepted) × AreParts u found
+IsJudged most shelves u (Refused v) = (first_row (upload_rows by_print (pool shelves) most u) ≡ v) × (v ≢ verdict.Accepted)

@@ -7,13 +7,14 @@ use Rattle.std.specs.List.{list_any, list_all}
 use Rattle.std.specs.FinMap.{get}
 use Rattle.vers.specs.Syntax.{without_epoch}
 use Rattle.records.specs.Values.{ChangesValue, DscValue, SidecarValue}
-use Rattle.records.specs.Records.{dsc_in, sidecar_in, is_among}
+use Rattle.records.specs.Records.{dsc_in, dsc_within, sidecar_in, is_among}
 use Rattle.sums.specs.Prints.{same_print}
 use Rattle.sums.specs.declared.entries.Entry.{Entry}
 use Rattle.sums.specs.declared.print.Print.{Print}
 use Rattle.rules.specs.Values.{ConfigValue}
 use Rattle.rules.specs.Verdicts.{Row, first_row}
 use Rattle.rules.specs.Judgement.{rule_rows, component}
+use Rattle.rules.specs.Sizes.{largest}
 use Rattle.rules.specs.declared.verdict.Verdict.{Verdict}
 use Rattle.rules.specs.declared.verdict.Verdict.TheVariants as verdict
 use Rattle.suites.specs.Pool.{PoolWith, pool_path}
@@ -73,8 +74,10 @@ abbrev pub match_ok : {V E : Type 0} → Result V E → (V → Bool) → Bool
 match_ok (Ok v) test = test v
 match_ok (Err e) test = true
 
-unfoldable pub has_bad_dsc : UploadValue → Bool
-has_bad_dsc u = list_any (λ part. match_ok (dsc_in part.1) (differs_from_dsc u.changes part.0.name)) (dsc_parts u)
+-- a .dsc of the upload differs, or its text is not a .dsc of files of at most `most` bytes
+unfoldable pub has_bad_dsc : ℕ → UploadValue → Bool
+has_bad_dsc most u =
+    list_any (λ part. match_ok (dsc_within most part.1) (differs_from_dsc u.changes part.0.name)) (dsc_parts u)
 
 -- 7. A sidecar is not valid, is misnamed, is of an architecture or a source that the .changes does not have, or
 -- is the second of its package and architecture.
@@ -129,11 +132,11 @@ module _ {C : Type 0} (tell : Telling C) (files : PoolWith C) where
   unfoldable pub has_other_contents : UploadValue → Bool
   has_other_contents u = list_any (is_taken u.changes) u.changes.entries
 
-  -- the rows of the verdicts 5 to 9
-  abbrev pub upload_rows : UploadValue → List Row
-  upload_rows u =
+  -- the rows of the verdicts 5 to 9, if a file has at most `most` bytes
+  abbrev pub upload_rows : ℕ → UploadValue → List Row
+  upload_rows most u =
       (has_bad_listing u.changes, verdict.BadListing)
-      ∷ (has_bad_dsc u, verdict.BadDsc)
+      ∷ (has_bad_dsc most u, verdict.BadDsc)
       ∷ (has_bad_sidecar u, verdict.BadSidecar)
       ∷ (lacks_source_file u, verdict.NotInPool)
       ∷ (has_other_contents u, verdict.OtherContents)
@@ -141,7 +144,7 @@ module _ {C : Type 0} (tell : Telling C) (files : PoolWith C) where
 
   -- the verdict: the first of the rows of the verdicts 1 to 9 that applies; accepted if no row does
   abbrev pub verdict_with : ConfigValue → UploadValue → Verdict
-  verdict_with config u = first_row (rule_rows config u.changes ++ upload_rows u)
+  verdict_with config u = first_row (rule_rows config u.changes ++ upload_rows (largest config) u)
 
 -- contents that are prints: each is its own print, and an entry has its print
 abbrev pub by_print : Telling Print

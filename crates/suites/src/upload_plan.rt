@@ -74,7 +74,7 @@ pub fn plan_upload(
         Err(verdict) => return Ok(Plan::unchanged(alloc, verdict)),
     };
     let component = component_name(config, place);
-    match judge_parts(alloc, component, shelves, upload)? {
+    match judge_parts(alloc, component, shelves, upload, config.largest_file())? {
         Judged::Accepted(parts) => {
             let items = items_of(alloc, component, upload, &parts)?;
             plan_admission(alloc, shelves, place.suite, items)

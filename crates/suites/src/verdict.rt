@@ -5,7 +5,7 @@ ghost use Rattle.std.specs.FinMap.{get};
 ghost use Rattle.std.specs.List.{list_any};
 ghost use Rattle.std.specs.Option.{option_map_or};
 ghost use Rattle.std.specs.Result.{result_ok};
-ghost use Rattle.records.specs.Records.{dsc_in as dsc_of_text, sidecar_in as sidecar_of_text};
+ghost use Rattle.records.specs.Records.{dsc_within as dsc_of_text, sidecar_in as sidecar_of_text};
 ghost use Rattle.rules.specs.Judgement.{component as component_of_upload};
 ghost use Rattle.rules.specs.Verdicts.{first_row};
 ghost use Rattle.suites.specs.Judging.{IsJudged, IsSource, IsSourcePart, IsBinaryPart, AreBinaryParts, AreBinaries, is_bad_dsc, is_bad_sidecar, part_of};
@@ -46,11 +46,11 @@ pub enum Judged<'a> {
     Refused(Verdict),
 }
 
-/// The .dsc that a text is, or nothing if it is not a .dsc.
-fn dsc_in(alloc: Global, text: &[u8]) -> Result<Option<Dsc>, AllocError>
-    ensures { IfOk result (λ found. found ≡ result_ok (dsc_of_text text.now)) }
+/// The .dsc that a text is, or nothing if it is not a .dsc of files of at most `most` bytes.
+fn dsc_within(alloc: Global, text: &[u8], most: u64) -> Result<Option<Dsc>, AllocError>
+    ensures { IfOk result (λ found. found ≡ result_ok (dsc_of_text most text.now)) }
 {
-    match Dsc::read(alloc, text) {
+    match Dsc::read_within(alloc, text, most) {
         Ok(dsc) => Ok(Some(dsc)),
         Err(RecordFault::OutOfMemory) => Err(AllocError),
         Err(_) => Ok(None),
@@ -68,15 +68,16 @@ fn sidecar_in(alloc: Global, text: &[u8]) -> Result<Option<Sidecar>, AllocError>
     }
 }
 
-/// The .dsc of the upload, if this part is the one that the .changes is about.
+/// The .dsc of the upload, if this part is the one that the .changes is about and lists files of at most `most` bytes.
 fn source_part<'a>(
     alloc: Global,
     changes: &Changes,
     part: Part<'a>,
+    most: u64,
 ) -> Result<Option<SourcePart<'a>>, AllocError>
-    ensures { IfOk result (λ found. MatchOption found (is_bad_dsc changes.now (part_of part.entry) ≡ true) (IsSourcePart changes.now (part_of part.entry))) }
+    ensures { IfOk result (λ found. MatchOption found (is_bad_dsc most changes.now (part_of part.entry) ≡ true) (IsSourcePart most changes.now (part_of part.entry))) }
 {
-    let Some(dsc) = dsc_in(alloc, part.text)? else {
+    let Some(dsc) = dsc_within(alloc, part.text, most)? else {
         return Ok(None);
     };
     if differs_from_dsc(alloc, changes, part.entry.name.as_str(), &dsc)? {
@@ -142,18 +143,20 @@ fn have_twins(binaries: &[BinaryPart<'_>]) -> bool
     false
 }
 
-/// The .dsc of an upload with a good listing, if it has one; or the verdict by which that is refused.
+/// The .dsc of an upload with a good listing, if it has one; or the verdict by which that is refused, as it is if it lists
+/// a file of more than `most` bytes.
 fn source_of<'a>(
     alloc: Global,
     upload: &'a Upload,
+    most: u64,
 ) -> Result<Result<Option<SourcePart<'a>>, Verdict>, AllocError>
     requires { has_bad_listing_of upload.now.changes ≡ false }
-    ensures { IfOk result (λ found. MatchResult found (IsSource upload.now)
-        (λ v. (v ≡ Verdict.BadDsc) × (has_bad_dsc upload.now ≡ true))) }
+    ensures { IfOk result (λ found. MatchResult found (IsSource most upload.now)
+        (λ v. (v ≡ Verdict.BadDsc) × (has_bad_dsc most upload.now ≡ true))) }
 {
     let parts = upload.parts(alloc, ".dsc")?;
     match parts.first() {
-        Some(part) => match source_part(alloc, upload.changes(), *part)? {
+        Some(part) => match source_part(alloc, upload.changes(), *part, most)? {
             Some(source) => Ok(Ok(Some(source))),
             None => Ok(Err(Verdict::BadDsc)),
         },
@@ -300,21 +303,23 @@ fn pool_verdict(
     Ok(Verdict::Accepted)
 }
 
-/// The records of an upload that is for the component, or the lowest verdict from 5 to 9 by which it is refused.
+/// The records of an upload that is for the component, or the lowest verdict from 5 to 9 by which it is refused. Its .dsc
+/// may list files of at most `most` bytes.
 pub fn judge_parts<'a>(
     alloc: Global,
     component: &str,
     shelves: &Shelves,
     upload: &'a Upload,
+    most: u64,
 ) -> Result<Judged<'a>, AllocError>
     requires { component.now ≡ component_of_upload upload.now.changes }
-    ensures { IfOk result (IsJudged shelves.now upload.now) }
+    ensures { IfOk result (IsJudged most shelves.now upload.now) }
 {
     let changes = upload.changes();
     if has_bad_listing(changes) {
         return Ok(Judged::Refused(Verdict::BadListing));
     }
-    let source = match source_of(alloc, upload)? {
+    let source = match source_of(alloc, upload, most)? {
         Ok(source) => source,
         Err(verdict) => return Ok(Judged::Refused(verdict)),
     };

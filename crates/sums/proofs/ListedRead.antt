@@ -1,9 +1,11 @@
 -- What is read of a paragraph is what it lists.
-use Rattle.std.proofs.Common.{◌≡◌, ℕ, ◌||◌, true, false, List, [], ◌∷◌, Option, Some, None, Ok, is_none, unwrap_or, length, ltb, refl, sym, ap, subst, ◌∙◌, arith}
+use Rattle.std.proofs.Common.{◌≡◌, ◌≤◌, ℕ, min, ◌||◌, true, false, List, [], ◌∷◌, Option, Some, None, Ok, is_none, unwrap_or, length, ltb, refl, sym, ap, subst, ◌∙◌, arith}
 use Rattle.std.proofs.lemmas.Bool.Decides.{nat_tests}
+use Rattle.std.proofs.lemmas.List.Elements.{All-weaker}
 use Rattle.std.specs.Option.{option_map}
 use Rattle.para.specs.Field.{FieldValue}
-use Rattle.sums.specs.Lists.{ListedIn, IsList, Listed, lists_in, lines_of, entries_of, refused_or, fault, field_named, sha1_name, sha256_name, files_name, is_absent, has_first}
+use Rattle.sums.specs.Lines.{greatest_size}
+use Rattle.sums.specs.Lists.{ListedIn, IsFile, IsList, Listed, lists_within, lines_of, entries_of, refused_or, fault, field_named, sha1_name, sha256_name, files_name, is_absent, has_first}
 use Rattle.sums.specs.Views.{fault_of_lines}
 use Rattle.sums.specs.declared.fault.ListFault.{ListFault}
 use Rattle.sums.specs.declared.fault.ListFault.TheVariants.{ListAbsent, TextOnFirstLine}
@@ -28,14 +30,14 @@ list_of None h k = cc
 list_of (Some f) h k = nothing f.first k
 
 -- no fault applies if the lists are there and their lines have no fault
-pub record NoFault (kind : ListKind) (p : List FieldValue) : Type 0 where
+pub record NoFault (most : ℕ) (kind : ListKind) (p : List FieldValue) : Type 0 where
   pub sha1 : IsList (field_named sha1_name p)
   pub sha256 : IsList (field_named sha256_name p)
   pub files : IsList (field_named files_name p)
-  pub lines : fault_of_lines kind (lines_of p) ≡ None
+  pub lines : fault_of_lines most kind (lines_of p) ≡ None
 
-none_applies : (kind : ListKind) (p : List FieldValue) → fault kind p ≡ None → NoFault kind p
-none_applies kind p h =
+none_applies : (most : ℕ) (kind : ListKind) (p : List FieldValue) → fault most kind p ≡ None → NoFault most kind p
+none_applies most kind p h =
     let a = none_of (is_absent p sha1_name || is_absent p sha256_name || is_absent p files_name) ListAbsent _ h in
     let b = none_of (has_first p sha1_name || has_first p sha256_name || has_first p files_name) TextOnFirstLine _ a.1 in
     let c = neither (is_absent p sha1_name || is_absent p sha256_name) (is_absent p files_name) a.0 in
@@ -49,8 +51,8 @@ none_applies kind p h =
       lines = b.1;
     }
 
-applies_none : (kind : ListKind) (p : List FieldValue) → NoFault kind p → fault kind p ≡ None
-applies_none kind p h =
+applies_none : (most : ℕ) (kind : ListKind) (p : List FieldValue) → NoFault most kind p → fault most kind p ≡ None
+applies_none most kind p h =
     let a = tests_of (field_named sha1_name p) h.sha1 in
     let b = tests_of (field_named sha256_name p) h.sha256 in
     let c = tests_of (field_named files_name p) h.files in
@@ -62,20 +64,46 @@ read_ok None xs es h = (refl, cc)
 read_ok (Some f) xs es h = cc
 
 -- what is read is listed
-pub listed_of_read : (kind : ListKind) (p : List FieldValue) (es : List Entry) → lists_in kind p ≡ Ok es → ListedIn p kind es
-unfolding lists_in
-listed_of_read kind p es h =
-    let a = read_ok (fault kind p) (entries_of kind (lines_of p)) es h in
-    let b = none_applies kind p a.0 in
-    record { sha1 = b.sha1; sha256 = b.sha256; files = b.files; listed = subst (λ xs. Listed (lines_of p) kind xs) a.1 (reads_listed kind (lines_of p) (faultless kind (lines_of p) b.lines)) }
+pub listed_of_read : (most : ℕ) (kind : ListKind) (p : List FieldValue) (es : List Entry) → lists_within most kind p ≡ Ok es → ListedIn most p kind es
+unfolding lists_within
+listed_of_read most kind p es h =
+    let a = read_ok (fault most kind p) (entries_of kind (lines_of p)) es h in
+    let b = none_applies most kind p a.0 in
+    record { sha1 = b.sha1; sha256 = b.sha256; files = b.files; listed = subst (λ xs. Listed most (lines_of p) kind xs) a.1 (reads_listed most kind (lines_of p) (faultless most kind (lines_of p) b.lines)) }
 
 -- what is listed is read
-pub read_of_listed : (kind : ListKind) (p : List FieldValue) (es : List Entry) → ListedIn p kind es → lists_in kind p ≡ Ok es
-unfolding lists_in
-read_of_listed kind p es h =
-    let none = applies_none kind p (record { sha1 = h.sha1; sha256 = h.sha256; files = h.files; lines = no_fault kind (lines_of p) (lists_faultless kind (lines_of p) es h.listed) }) in
-    ap (λ o. refused_or o (entries_of kind (lines_of p))) none ∙ ap Ok (listed_read kind (lines_of p) es h.listed)
+pub read_of_listed : (most : ℕ) (kind : ListKind) (p : List FieldValue) (es : List Entry) → ListedIn most p kind es → lists_within most kind p ≡ Ok es
+unfolding lists_within
+read_of_listed most kind p es h =
+    let none = applies_none most kind p (record { sha1 = h.sha1; sha256 = h.sha256; files = h.files; lines = no_fault most kind (lines_of p) (lists_faultless most kind (lines_of p) es h.listed) }) in
+    ap (λ o. refused_or o (entries_of kind (lines_of p))) none ∙ ap Ok (listed_read most kind (lines_of p) es h.listed)
 
 -- a paragraph lists one list of entries at most
-pub listed_once : (kind : ListKind) (p : List FieldValue) (es fs : List Entry) → ListedIn p kind es → ListedIn p kind fs → es ≡ fs
-listed_once kind p es fs h k = cc (sym (read_of_listed kind p es h) ∙ read_of_listed kind p fs k)
+pub listed_once : (most : ℕ) (kind : ListKind) (p : List FieldValue) (es fs : List Entry) → ListedIn most p kind es → ListedIn most p kind fs → es ≡ fs
+listed_once most kind p es fs h k = cc (sym (read_of_listed most kind p es h) ∙ read_of_listed most kind p fs k)
+
+-- ---- a greater limit
+
+file_more : (most more : ℕ) (kind : ListKind) (e : Entry) → min most greatest_size ≤ more → IsFile most kind e → IsFile more kind e
+file_more most more kind e h f = let small = f.size in record { name = f.name; size = omega (arith, small, h); md5 = f.md5; sha1 = f.sha1; sha256 = f.sha256; section = f.section }
+
+pub listed_more : (most more : ℕ) (kind : ListKind) (p : List FieldValue) (es : List Entry) → min most greatest_size ≤ more → ListedIn most p kind es → ListedIn more p kind es
+listed_more most more kind p es h l = record {
+  sha1 = l.sha1;
+  sha256 = l.sha256;
+  files = l.files;
+  listed = record {
+    files = l.listed.files;
+    sha1 = l.listed.sha1;
+    sha1_once = l.listed.sha1_once;
+    sha256 = l.listed.sha256;
+    sha256_once = l.listed.sha256_once;
+    names = l.listed.names;
+    each = All-weaker (IsFile most kind) (IsFile more kind) (λ e f. file_more most more kind e h f) es l.listed.each;
+    count = l.listed.count;
+  };
+}
+
+-- what is read with a limit is read with a greater one
+pub read_more : (most more : ℕ) (kind : ListKind) (p : List FieldValue) (es : List Entry) → min most greatest_size ≤ more → lists_within most kind p ≡ Ok es → lists_within more kind p ≡ Ok es
+read_more most more kind p es h is = read_of_listed more kind p es (listed_more most more kind p es h (listed_of_read most kind p es is))

@@ -55,20 +55,20 @@ of_five (a ∷ b ∷ c ∷ d ∷ e ∷ []) h = refl
 of_five (a ∷ b ∷ c ∷ d ∷ e ∷ f ∷ ws) h = absurd (omega arith)
 
 -- a line of three words, by what its words say
-line_again : (n : ℕ) (line size name : List ℕ) → IsGood (three_words n) line → size_word line ≡ size → word line 2 ≡ name
+line_again : (most n : ℕ) (line size name : List ℕ) → IsGood most (three_words n) line → size_word line ≡ size → word line 2 ≡ name
     → three_line (unhexed (digest_word line)) (digits_value 10 size) name ≡ line
-line_again n line size name good s m =
+line_again most n line size name good s m =
     let d : encode_lower (unhexed (digest_word line)) ≡ digest_word line = digest_text n (digest_word line) good.digest in
-    let t : decimal (digits_value 10 size) ≡ size = size_written size (subst (λ w. is_size w ≡ true) s good.size) in
+    let t : decimal (digits_value 10 size) ≡ size = size_written most size (subst (λ w. is_size most w ≡ true) s good.size) in
     (λ i. spelled (d i ∷ t i ∷ name ∷ [])) ∙ ((λ i. spelled (digest_word line ∷ sym s i ∷ sym m i ∷ [])) ∙ (ap spelled (of_three (words line) (word_count (three_words n) line good.words)) ∙ join_with_byte-slice_split 32 line))
 
 -- ---- what `Files` says
 
-files_again : (kind : ListKind) (lines : Lines) (line : List ℕ) → IsGood (files_form kind) line → files_line kind (entry_of_line kind lines line) ≡ line
-files_again Dsc lines line good = line_again 16 line (size_word line) (word line 2) good refl refl
-files_again Changes lines line good =
+files_again : (most : ℕ) (kind : ListKind) (lines : Lines) (line : List ℕ) → IsGood most (files_form kind) line → files_line kind (entry_of_line kind lines line) ≡ line
+files_again most Dsc lines line good = line_again most 16 line (size_word line) (word line 2) good refl refl
+files_again most Changes lines line good =
     let d : encode_lower (unhexed (digest_word line)) ≡ digest_word line = digest_text 16 (digest_word line) good.digest in
-    let t : decimal (digits_value 10 (size_word line)) ≡ size_word line = size_written (size_word line) good.size in
+    let t : decimal (digits_value 10 (size_word line)) ≡ size_word line = size_written most (size_word line) good.size in
     (λ i. spelled (d i ∷ t i ∷ word line 2 ∷ word line 3 ∷ word line 4 ∷ [])) ∙ (ap spelled (of_five (words line) (word_count (files_form Changes) line good.words)) ∙ join_with_byte-slice_split 32 line)
 
 -- ---- the words of a line are words
@@ -97,28 +97,28 @@ word_at form line i h l =
     let plain = all_true (λ w. not (list_any (λ c. is_space c || is_tab c) w)) (words line) (word line i) (plain_pieces (λ c. is_space c || is_tab c) line (λ c k e. rw (e, any_false is_tab line c (denied _ a.1) k) refl)) at in
     rw (some, plain) refl
 
-sections : (kind : ListKind) (lines : Lines) (line : List ℕ) → IsGood (files_form kind) line → HasSection kind (entry_of_line kind lines line)
-sections Dsc lines line good = (refl, refl)
-sections Changes lines line good = (word_at (files_form Changes) line 2 good.words (omega arith), word_at (files_form Changes) line 3 good.words (omega arith))
+sections : (most : ℕ) (kind : ListKind) (lines : Lines) (line : List ℕ) → IsGood most (files_form kind) line → HasSection kind (entry_of_line kind lines line)
+sections most Dsc lines line good = (refl, refl)
+sections most Changes lines line good = (word_at (files_form Changes) line 2 good.words (omega arith), word_at (files_form Changes) line 3 good.words (omega arith))
 
-pub md5_word : (kind : ListKind) (line : List ℕ) → IsGood (files_form kind) line → is_digest 16 (digest_word line) ≡ true
-md5_word Dsc line good = good.digest
-md5_word Changes line good = good.digest
+pub md5_word : (most : ℕ) (kind : ListKind) (line : List ℕ) → IsGood most (files_form kind) line → is_digest 16 (digest_word line) ≡ true
+md5_word most Dsc line good = good.digest
+md5_word most Changes line good = good.digest
 
 -- ---- what the other two lists say
 
 -- the line of a file in another list, which the join gives back
-pub record IsJoined (n : ℕ) (others : List (List ℕ)) (size name : List ℕ) (y : List ℕ) : Type 0 where
+pub record IsJoined (most n : ℕ) (others : List (List ℕ)) (size name : List ℕ) (y : List ℕ) : Type 0 where
   pub listed : Contains others y
   pub named : word y 2 ≡ name
   pub found : find (λ line. bytes_eq (word line 2) name) others ≡ Some y
-  pub good : IsGood (three_words n) y
+  pub good : IsGood most (three_words n) y
   pub line : three_line (digest_named (three_words n) others name) (digits_value 10 size) name ≡ y
   pub digest : IsDigest n (digest_named (three_words n) others name)
 
-pub joined : (n : ℕ) (form : LineForm) (files others : List (List ℕ)) (l : List ℕ) → IsGoodList (three_words n) others → Agree (three_words n) others form files → Contains files l
-    → (y : List ℕ) × IsJoined n others (size_word l) (name_word form l) y
-joined n form files others l g a k =
+pub joined : (most n : ℕ) (form : LineForm) (files others : List (List ℕ)) (l : List ℕ) → IsGoodList most (three_words n) others → Agree (three_words n) others form files → Contains files l
+    → (y : List ℕ) × IsJoined most n others (size_word l) (name_word form l) y
+joined most n form files others l g a k =
     let h = a.back l k in
     let good = g.each h.0 h.1 in
     let found : find (λ line. bytes_eq (word line 2) (name_word form l)) others ≡ Some h.0 =
@@ -131,33 +131,33 @@ joined n form files others l g a k =
         named = h.2;
         found = found;
         good = good;
-        line = (λ i. three_line (same i) (digits_value 10 (size_word l)) (name_word form l)) ∙ line_again n h.0 (size_word l) (name_word form l) good h.3 h.2;
+        line = (λ i. three_line (same i) (digits_value 10 (size_word l)) (name_word form l)) ∙ line_again most n h.0 (size_word l) (name_word form l) good h.3 h.2;
         digest = subst (λ d. IsDigest n d) (sym same) (digest_is n (digest_word h.0) good.digest);
       },
     )
 
 -- the first line of a file's name in another list has a digest
-pub named_digest : (n : ℕ) (form : LineForm) (files others : List (List ℕ)) (l : List ℕ) → IsGoodList (three_words n) others → Agree (three_words n) others form files → Contains files l
+pub named_digest : (most n : ℕ) (form : LineForm) (files others : List (List ℕ)) (l : List ℕ) → IsGoodList most (three_words n) others → Agree (three_words n) others form files → Contains files l
     → is_digest n (digest_word (unwrap_or (find (λ line. bytes_eq (word line 2) (name_word form l)) others) [])) ≡ true
-named_digest n form files others l g a k =
-    let j = joined n form files others l g a k in
+named_digest most n form files others l g a k =
+    let j = joined most n form files others l g a k in
     ap (λ o. is_digest n (digest_word (unwrap_or o []))) j.1.found ∙ j.1.good.digest
 
-same_members : (n : ℕ) (form : LineForm) (files others : List (List ℕ)) (f : List ℕ → List ℕ) → IsGoodList (three_words n) others → Agree (three_words n) others form files
+same_members : (most n : ℕ) (form : LineForm) (files others : List (List ℕ)) (f : List ℕ → List ℕ) → IsGoodList most (three_words n) others → Agree (three_words n) others form files
     → ((l : List ℕ) → f l ≡ three_line (digest_named (three_words n) others (name_word form l)) (digits_value 10 (size_word l)) (name_word form l))
     → (line : List ℕ) → Contains (map f files) line ↔ Contains others line
-same_members n form files others f g a is line = (to, back)
+same_members most n form files others f g a is line = (to, back)
   where
     to : Contains (map f files) line → Contains others line
     to k =
         let q = from_map f line files k in
-        let j = joined n form files others q.0 g a q.1 in
+        let j = joined most n form files others q.0 g a q.1 in
         subst (λ x. Contains others x) (sym j.1.line ∙ (sym (is q.0) ∙ q.2)) j.1.listed
 
     back : Contains others line → Contains (map f files) line
     back k =
         let h = a.there line k in
-        let j = joined n form files others h.0 g a h.1 in
+        let j = joined most n form files others h.0 g a h.1 in
         let one : j.0 ≡ line = by_name (λ x. word x 2) others j.0 line g.once j.1.listed k (j.1.named ∙ h.2) in
         subst (λ x. Contains (map f files) x) (is h.0 ∙ (j.1.line ∙ one)) (contains_map f h.0 files h.1)
 
@@ -172,30 +172,30 @@ pub length_map : {X Y : Type 0} (f : X → Y) (xs : List X) → length (map f xs
 length_map f [] = refl
 length_map f (x ∷ xs) = ap suc (length_map f xs)
 
-is_file : (kind : ListKind) (lines : Lines) (line : List ℕ) → Faultless kind lines → Contains lines.files line → IsFile kind (entry_of_line kind lines line)
-is_file kind lines line f k =
+is_file : (most : ℕ) (kind : ListKind) (lines : Lines) (line : List ℕ) → Faultless most kind lines → Contains lines.files line → IsFile most kind (entry_of_line kind lines line)
+is_file most kind lines line f k =
     let good = f.files.each line k in
-    let one = joined 20 (files_form kind) lines.files lines.sha1 line f.sha1 f.sha1_agrees k in
-    let two = joined 32 (files_form kind) lines.files lines.sha256 line f.sha256 f.sha256_agrees k in
+    let one = joined most 20 (files_form kind) lines.files lines.sha1 line f.sha1 f.sha1_agrees k in
+    let two = joined most 32 (files_form kind) lines.files lines.sha256 line f.sha256 f.sha256_agrees k in
     record {
       name = good.name;
-      size = (size_text (size_word line) good.size).small;
-      md5 = digest_is 16 (digest_word line) (md5_word kind line good);
+      size = (size_text most (size_word line) good.size).small;
+      md5 = digest_is 16 (digest_word line) (md5_word most kind line good);
       sha1 = one.1.digest;
       sha256 = two.1.digest;
-      section = sections kind lines line good;
+      section = sections most kind lines line good;
     }
 
-pub reads_listed : (kind : ListKind) (lines : Lines) → Faultless kind lines → Listed lines kind (entries_of kind lines)
-reads_listed kind lines f = record {
-  files = sym (map-map (files_line kind) (entry_of_line kind lines) lines.files) ∙ map_same (λ l. files_line kind (entry_of_line kind lines l)) lines.files (λ l k. files_again kind lines l (f.files.each l k));
+pub reads_listed : (most : ℕ) (kind : ListKind) (lines : Lines) → Faultless most kind lines → Listed most lines kind (entries_of kind lines)
+reads_listed most kind lines f = record {
+  files = sym (map-map (files_line kind) (entry_of_line kind lines) lines.files) ∙ map_same (λ l. files_line kind (entry_of_line kind lines l)) lines.files (λ l k. files_again most kind lines l (f.files.each l k));
   sha1 = λ line. subst (λ xs. Contains xs line ↔ Contains lines.sha1 line) (map-map sha1_line (entry_of_line kind lines) lines.files)
-      (same_members 20 (files_form kind) lines.files lines.sha1 (λ l. sha1_line (entry_of_line kind lines l)) f.sha1 f.sha1_agrees (λ l. refl) line);
+      (same_members most 20 (files_form kind) lines.files lines.sha1 (λ l. sha1_line (entry_of_line kind lines l)) f.sha1 f.sha1_agrees (λ l. refl) line);
   sha1_once = f.sha1.once;
   sha256 = λ line. subst (λ xs. Contains xs line ↔ Contains lines.sha256 line) (map-map sha256_line (entry_of_line kind lines) lines.files)
-      (same_members 32 (files_form kind) lines.files lines.sha256 (λ l. sha256_line (entry_of_line kind lines l)) f.sha256 f.sha256_agrees (λ l. refl) line);
+      (same_members most 32 (files_form kind) lines.files lines.sha256 (λ l. sha256_line (entry_of_line kind lines l)) f.sha256 f.sha256_agrees (λ l. refl) line);
   sha256_once = f.sha256.once;
   names = pairs_map (λ a b. a.name ≢ b.name) (entry_of_line kind lines) lines.files f.files.once;
-  each = All-map (IsFile kind) (entry_of_line kind lines) lines.files (all_from (λ l. IsFile kind (entry_of_line kind lines l)) lines.files (λ l k. is_file kind lines l f k));
+  each = All-map (IsFile most kind) (entry_of_line kind lines) lines.files (all_from (λ l. IsFile most kind (entry_of_line kind lines l)) lines.files (λ l k. is_file most kind lines l f k));
   count = let e = length_map (entry_of_line kind lines) lines.files in let c = f.count in (omega arith, omega arith);
 }

@@ -2,7 +2,7 @@
 use Rattle.std.proofs.Common.{◌≡◌, ℕ, ◌||◌, Bool, true, false, List, [], Option, Some, None, Ok, Err, is_none, unwrap_or, length, ltb, refl, sym, ap, ◌∙◌}
 use Rattle.std.specs.Option.{option_map}
 use Rattle.para.specs.Field.{FieldValue}
-use Rattle.sums.specs.Lists.{Lines, lists_in, lines_of, entries_of, refused_or, fault, field_named, sha1_name, sha256_name, files_name, is_absent, has_first}
+use Rattle.sums.specs.Lists.{Lines, lists_within, lines_of, entries_of, refused_or, fault, field_named, sha1_name, sha256_name, files_name, is_absent, has_first}
 use Rattle.sums.specs.Views.{AreEntries, fault_of_lines}
 use Rattle.sums.specs.declared.fault.ListFault.{ListFault}
 use Rattle.sums.specs.declared.fault.ListFault.TheVariants.{ListAbsent, TextOnFirstLine}
@@ -21,18 +21,18 @@ third true b c h = refl
 third false true c h = refl
 third false false c h = h
 
-absent : (kind : ListKind) (p : List FieldValue) → (is_absent p sha1_name || is_absent p sha256_name || is_absent p files_name) ≡ true → lists_in kind p ≡ Err ListAbsent
-unfolding lists_in
-absent kind p h = rw h refl
+absent : (most : ℕ) (kind : ListKind) (p : List FieldValue) → (is_absent p sha1_name || is_absent p sha256_name || is_absent p files_name) ≡ true → lists_within most kind p ≡ Err ListAbsent
+unfolding lists_within
+absent most kind p h = rw h refl
 
-pub no_sha1 : (kind : ListKind) (p : List FieldValue) → field_named sha1_name p ≡ None → lists_in kind p ≡ Err ListAbsent
-no_sha1 kind p h = absent kind p (first (is_absent p sha1_name) (is_absent p sha256_name) (is_absent p files_name) (ap is_none h))
+pub no_sha1 : (most : ℕ) (kind : ListKind) (p : List FieldValue) → field_named sha1_name p ≡ None → lists_within most kind p ≡ Err ListAbsent
+no_sha1 most kind p h = absent most kind p (first (is_absent p sha1_name) (is_absent p sha256_name) (is_absent p files_name) (ap is_none h))
 
-pub no_sha256 : (kind : ListKind) (p : List FieldValue) → field_named sha256_name p ≡ None → lists_in kind p ≡ Err ListAbsent
-no_sha256 kind p h = absent kind p (second (is_absent p sha1_name) (is_absent p sha256_name) (is_absent p files_name) (ap is_none h))
+pub no_sha256 : (most : ℕ) (kind : ListKind) (p : List FieldValue) → field_named sha256_name p ≡ None → lists_within most kind p ≡ Err ListAbsent
+no_sha256 most kind p h = absent most kind p (second (is_absent p sha1_name) (is_absent p sha256_name) (is_absent p files_name) (ap is_none h))
 
-pub no_files : (kind : ListKind) (p : List FieldValue) → field_named files_name p ≡ None → lists_in kind p ≡ Err ListAbsent
-no_files kind p h = absent kind p (third (is_absent p sha1_name) (is_absent p sha256_name) (is_absent p files_name) (ap is_none h))
+pub no_files : (most : ℕ) (kind : ListKind) (p : List FieldValue) → field_named files_name p ≡ None → lists_within most kind p ≡ Err ListAbsent
+no_files most kind p h = absent most kind p (third (is_absent p sha1_name) (is_absent p sha256_name) (is_absent p files_name) (ap is_none h))
 
 -- the three fields of a paragraph
 pub record Three (p : List FieldValue) (sha1 sha256 files : FieldValue) : Type 0 where
@@ -51,17 +51,17 @@ firsts : (p : List FieldValue) (sha1 sha256 files : FieldValue) → Three p sha1
 unfolding first_test
 firsts p sha1 sha256 files h = (λ i. first_test (h.sha1_is i) || first_test (h.sha256_is i) || first_test (h.files_is i))
 
-pub has_text : (kind : ListKind) (p : List FieldValue) (sha1 sha256 files : FieldValue) → Three p sha1 sha256 files → (ltb 0 (length sha1.first) || ltb 0 (length sha256.first) || ltb 0 (length files.first)) ≡ true
-    → lists_in kind p ≡ Err TextOnFirstLine
-unfolding lists_in
-has_text kind p sha1 sha256 files h t =
+pub has_text : (most : ℕ) (kind : ListKind) (p : List FieldValue) (sha1 sha256 files : FieldValue) → Three p sha1 sha256 files → (ltb 0 (length sha1.first) || ltb 0 (length sha256.first) || ltb 0 (length files.first)) ≡ true
+    → lists_within most kind p ≡ Err TextOnFirstLine
+unfolding lists_within
+has_text most kind p sha1 sha256 files h t =
     let a = none_absent p sha1 sha256 files h in
     let b = firsts p sha1 sha256 files h ∙ t in
     rw (a, b) refl
 
-pub rest : (kind : ListKind) (p : List FieldValue) (sha1 sha256 files : FieldValue) → Three p sha1 sha256 files → (ltb 0 (length sha1.first) || ltb 0 (length sha256.first) || ltb 0 (length files.first)) ≡ false
-    → fault kind p ≡ fault_of_lines kind (lines_of p)
-rest kind p sha1 sha256 files h t =
+pub rest : (most : ℕ) (kind : ListKind) (p : List FieldValue) (sha1 sha256 files : FieldValue) → Three p sha1 sha256 files → (ltb 0 (length sha1.first) || ltb 0 (length sha256.first) || ltb 0 (length files.first)) ≡ false
+    → fault most kind p ≡ fault_of_lines most kind (lines_of p)
+rest most kind p sha1 sha256 files h t =
     let a = none_absent p sha1 sha256 files h in
     let b = firsts p sha1 sha256 files h ∙ t in
     rw (a, b) refl
@@ -79,12 +79,12 @@ lines_are p sha1 sha256 files h = (λ i. record { sha1 = more (h.sha1_is i); sha
 pub same_lines : (found : Lines) {lines : Lines} {a b c : List (List ℕ)} → lines ≡ found → a ≡ lines.sha1 → b ≡ lines.sha256 → c ≡ lines.files → record { sha1 = a; sha256 = b; files = c } ≡ found
 same_lines found h x y z = (λ i. record { sha1 = x i; sha256 = y i; files = z i }) ∙ h
 
-pub refused : (kind : ListKind) (p : List FieldValue) (lines : Lines) (e : ListFault) → fault kind p ≡ fault_of_lines kind (lines_of p) → lines ≡ lines_of p → fault_of_lines kind lines ≡ Some e → lists_in kind p ≡ Err e
-unfolding lists_in
-refused kind p lines e rest same h = ap (λ o. refused_or o (entries_of kind (lines_of p))) (rest ∙ (sym (ap (fault_of_lines kind) same) ∙ h))
+pub refused : (most : ℕ) (kind : ListKind) (p : List FieldValue) (lines : Lines) (e : ListFault) → fault most kind p ≡ fault_of_lines most kind (lines_of p) → lines ≡ lines_of p → fault_of_lines most kind lines ≡ Some e → lists_within most kind p ≡ Err e
+unfolding lists_within
+refused most kind p lines e rest same h = ap (λ o. refused_or o (entries_of kind (lines_of p))) (rest ∙ (sym (ap (fault_of_lines most kind) same) ∙ h))
 
-pub read : (kind : ListKind) (p : List FieldValue) (lines : Lines) (es : List Entry) → fault kind p ≡ fault_of_lines kind (lines_of p) → lines ≡ lines_of p → AreEntries kind lines es → lists_in kind p ≡ Ok es
-unfolding lists_in
-read kind p lines es rest same h =
+pub read : (most : ℕ) (kind : ListKind) (p : List FieldValue) (lines : Lines) (es : List Entry) → fault most kind p ≡ fault_of_lines most kind (lines_of p) → lines ≡ lines_of p → AreEntries most kind lines es → lists_within most kind p ≡ Ok es
+unfolding lists_within
+read most kind p lines es rest same h =
     let entries : es ≡ entries_of kind (lines_of p) = h.entries_are ∙ ap (entries_of kind) same in
-    ap (λ o. refused_or o (entries_of kind (lines_of p))) (rest ∙ (sym (ap (fault_of_lines kind) same) ∙ h.faultless)) ∙ ap Ok (sym entries)
+    ap (λ o. refused_or o (entries_of kind (lines_of p))) (rest ∙ (sym (ap (fault_of_lines most kind) same) ∙ h.faultless)) ∙ ap Ok (sym entries)

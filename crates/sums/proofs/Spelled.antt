@@ -70,8 +70,8 @@ digest_is_word n w some h =
     let long : 0 < length w = grind (arith, nat_tests) in
     word_of is_lower_hex w hex_plain long p.1
 
-pub size_is_word : (w : List ℕ) → is_size w ≡ true → is_word w ≡ true
-size_is_word w h = let t = size_text w h in word_of is_ascii_digit w digit_plain t.some t.digits
+pub size_is_word : (most : ℕ) (w : List ℕ) → is_size most w ≡ true → is_word w ≡ true
+size_is_word most w h = let t = size_text most w h in word_of is_ascii_digit w digit_plain t.some t.digits
 
 letter : (c : ℕ) → is_ascii_alphanumeric c ≡ true → is_name_character c ≡ true
 letter c h = rw h refl

@@ -34,57 +34,57 @@ none_before f a b c d h =
     let name = (neither f.name d p.1).0 in
     rw (words, digest, size, name) refl
 
-failed_on : (before f : Failed) (form : LineForm) (xs : List (List ℕ)) (x : List ℕ) → f ≡ with_lines before form xs → with_line f form x ≡ with_lines before form (xs ++ x ∷ [])
-failed_on before f form xs x h =
-    ap (λ g. with_line g form x) h
+failed_on : (most : ℕ) (before f : Failed) (form : LineForm) (xs : List (List ℕ)) (x : List ℕ) → f ≡ with_lines most before form xs → with_line most f form x ≡ with_lines most before form (xs ++ x ∷ [])
+failed_on most before f form xs x h =
+    ap (λ g. with_line most g form x) h
     ∙ (λ i. record {
       words = tested before.words (has_bad_words form) xs x i;
       digest = tested before.digest (has_bad_digest form) xs x i;
-      size = tested before.size (has_bad_size form) xs x i;
+      size = tested before.size (has_bad_size most form) xs x i;
       name = tested before.name (has_bad_name form) xs x i;
     })
 
 -- no text yet
-pub split_none : (before : Failed) (form : LineForm) → IsSplit before form [] before []
-split_none before form = record {
+pub split_none : (most : ℕ) (before : Failed) (form : LineForm) → IsSplit most before form [] before []
+split_none most before form = record {
   failed = (λ i. record { words = sym (or_none before.words) i; digest = sym (or_none before.digest) i; size = sym (or_none before.size) i; name = sym (or_none before.name) i });
   kept = λ h. refl;
 }
 
 -- one more line, which is kept
-pub split_kept : (before f : Failed) (form : LineForm) (xs lines : List (List ℕ)) (x : List ℕ) → IsSplit before form xs f lines → any_failed (with_line f form x) ≡ false
-    → IsSplit before form (xs ++ x ∷ []) (with_line f form x) (lines ++ x ∷ [])
-split_kept before f form xs lines x s h = record {
-  failed = failed_on before f form xs x s.failed;
-  kept = λ k. ap (λ ls. ls ++ x ∷ []) (s.kept (none_before f (has_bad_words form x) (has_bad_digest form x) (has_bad_size form x) (has_bad_name form x) h));
+pub split_kept : (most : ℕ) (before f : Failed) (form : LineForm) (xs lines : List (List ℕ)) (x : List ℕ) → IsSplit most before form xs f lines → any_failed (with_line most f form x) ≡ false
+    → IsSplit most before form (xs ++ x ∷ []) (with_line most f form x) (lines ++ x ∷ [])
+split_kept most before f form xs lines x s h = record {
+  failed = failed_on most before f form xs x s.failed;
+  kept = λ k. ap (λ ls. ls ++ x ∷ []) (s.kept (none_before f (has_bad_words form x) (has_bad_digest form x) (has_bad_size most form x) (has_bad_name form x) h));
 }
 
 -- one more line, which is not kept
-pub split_past : (before f : Failed) (form : LineForm) (xs lines : List (List ℕ)) (x : List ℕ) → IsSplit before form xs f lines → any_failed (with_line f form x) ≡ true
-    → IsSplit before form (xs ++ x ∷ []) (with_line f form x) lines
-split_past before f form xs lines x s h = record { failed = failed_on before f form xs x s.failed; kept = λ k. cc }
+pub split_past : (most : ℕ) (before f : Failed) (form : LineForm) (xs lines : List (List ℕ)) (x : List ℕ) → IsSplit most before form xs f lines → any_failed (with_line most f form x) ≡ true
+    → IsSplit most before form (xs ++ x ∷ []) (with_line most f form x) lines
+split_past most before f form xs lines x s h = record { failed = failed_on most before f form xs x s.failed; kept = λ k. cc }
 
 -- ---- the three lists
 
 -- the three lists are split, one after another
-pub record InTurn (kind : ListKind) (found : Lines) (f g h : Failed) (a b c : List (List ℕ)) : Type 0 where
-  pub sha1 : IsSplit (record { words = false; digest = false; size = false; name = false }) sha1_form found.sha1 f a
-  pub sha256 : IsSplit f sha256_form found.sha256 g b
-  pub files : IsSplit g (files_form kind) found.files h c
+pub record InTurn (most : ℕ) (kind : ListKind) (found : Lines) (f g h : Failed) (a b c : List (List ℕ)) : Type 0 where
+  pub sha1 : IsSplit most (record { words = false; digest = false; size = false; name = false }) sha1_form found.sha1 f a
+  pub sha256 : IsSplit most f sha256_form found.sha256 g b
+  pub files : IsSplit most g (files_form kind) found.files h c
 
-tried : ListKind → Lines → Failed
-tried kind lines = record {
+tried : (most : ℕ) → ListKind → Lines → Failed
+tried most kind lines = record {
   words = some_line has_bad_words kind lines;
   digest = some_line has_bad_digest kind lines;
-  size = some_line has_bad_size kind lines;
+  size = some_line (has_bad_size most) kind lines;
   name = some_line has_bad_name kind lines;
 }
 
-all_tried : (kind : ListKind) (found : Lines) (f g h : Failed) (a b c : List (List ℕ)) → InTurn kind found f g h a b c → h ≡ tried kind found
+all_tried : (most : ℕ) (kind : ListKind) (found : Lines) (f g h : Failed) (a b c : List (List ℕ)) → InTurn most kind found f g h a b c → h ≡ tried most kind found
 unfolding tried
-all_tried kind found f g h a b c s =
+all_tried most kind found f g h a b c s =
     s.files.failed
-    ∙ ap (λ f. with_lines f (files_form kind) found.files) (s.sha256.failed ∙ ap (λ f. with_lines f sha256_form found.sha256) s.sha1.failed)
+    ∙ ap (λ f. with_lines most f (files_form kind) found.files) (s.sha256.failed ∙ ap (λ f. with_lines most f sha256_form found.sha256) s.sha1.failed)
 
 first_fault : (a b c d : Bool) (rest : Option ListFault) (e : ListFault) → fault_of_failed (record { words = a; digest = b; size = c; name = d }) ≡ Some e
     → cond a (Some BadWords) (cond b (Some BadDigest) (cond c (Some BadSize) (cond d (Some BadName) rest))) ≡ Some e
@@ -110,30 +110,30 @@ none_failed false false false true h = cc
 none_failed false false false false h = refl
 
 -- the fault of the first check that failed is that of the lines
-pub fault_found : (kind : ListKind) (found : Lines) (f g h : Failed) (a b c : List (List ℕ)) (e : ListFault) → InTurn kind found f g h a b c → fault_of_failed h ≡ Some e → fault_of_lines kind found ≡ Some e
+pub fault_found : (most : ℕ) (kind : ListKind) (found : Lines) (f g h : Failed) (a b c : List (List ℕ)) (e : ListFault) → InTurn most kind found f g h a b c → fault_of_failed h ≡ Some e → fault_of_lines most kind found ≡ Some e
 unfolding tried
-fault_found kind found f g h a b c e s k =
-    first_fault (some_line has_bad_words kind found) (some_line has_bad_digest kind found) (some_line has_bad_size kind found) (some_line has_bad_name kind found) (fault_of_names kind found) e
-    (sym (ap fault_of_failed (all_tried kind found f g h a b c s)) ∙ k)
+fault_found most kind found f g h a b c e s k =
+    first_fault (some_line has_bad_words kind found) (some_line has_bad_digest kind found) (some_line (has_bad_size most) kind found) (some_line has_bad_name kind found) (fault_of_names most kind found) e
+    (sym (ap fault_of_failed (all_tried most kind found f g h a b c s)) ∙ k)
 
 -- if no check failed, the names are next
-names_next : (kind : ListKind) (found : Lines) (f g h : Failed) (a b c : List (List ℕ)) → InTurn kind found f g h a b c → fault_of_failed h ≡ None → fault_of_lines kind found ≡ fault_of_names kind found
+names_next : (most : ℕ) (kind : ListKind) (found : Lines) (f g h : Failed) (a b c : List (List ℕ)) → InTurn most kind found f g h a b c → fault_of_failed h ≡ None → fault_of_lines most kind found ≡ fault_of_names most kind found
 unfolding tried
-names_next kind found f g h a b c s k =
-    no_fault (some_line has_bad_words kind found) (some_line has_bad_digest kind found) (some_line has_bad_size kind found) (some_line has_bad_name kind found) (fault_of_names kind found)
-    (sym (ap fault_of_failed (all_tried kind found f g h a b c s)) ∙ k)
+names_next most kind found f g h a b c s k =
+    no_fault (some_line has_bad_words kind found) (some_line has_bad_digest kind found) (some_line (has_bad_size most) kind found) (some_line has_bad_name kind found) (fault_of_names most kind found)
+    (sym (ap fault_of_failed (all_tried most kind found f g h a b c s)) ∙ k)
 
 -- if no check failed, all lines are kept
-all_kept : (kind : ListKind) (found : Lines) (f g h : Failed) (a b c : List (List ℕ)) → InTurn kind found f g h a b c → fault_of_failed h ≡ None → record { sha1 = a; sha256 = b; files = c } ≡ found
-all_kept kind found f g h a b c s k =
+all_kept : (most : ℕ) (kind : ListKind) (found : Lines) (f g h : Failed) (a b c : List (List ℕ)) → InTurn most kind found f g h a b c → fault_of_failed h ≡ None → record { sha1 = a; sha256 = b; files = c } ≡ found
+all_kept most kind found f g h a b c s k =
     let last : any_failed h ≡ false = none_failed h.words h.digest h.size h.name k in
     let two : any_failed g ≡ false =
-    none_before g (list_any (has_bad_words (files_form kind)) found.files) (list_any (has_bad_digest (files_form kind)) found.files) (list_any (has_bad_size (files_form kind)) found.files) (list_any (has_bad_name (files_form kind)) found.files)
+    none_before g (list_any (has_bad_words (files_form kind)) found.files) (list_any (has_bad_digest (files_form kind)) found.files) (list_any (has_bad_size most (files_form kind)) found.files) (list_any (has_bad_name (files_form kind)) found.files)
     (sym (ap any_failed s.files.failed) ∙ last) in
     let one : any_failed f ≡ false =
-    none_before f (list_any (has_bad_words sha256_form) found.sha256) (list_any (has_bad_digest sha256_form) found.sha256) (list_any (has_bad_size sha256_form) found.sha256) (list_any (has_bad_name sha256_form) found.sha256)
+    none_before f (list_any (has_bad_words sha256_form) found.sha256) (list_any (has_bad_digest sha256_form) found.sha256) (list_any (has_bad_size most sha256_form) found.sha256) (list_any (has_bad_name sha256_form) found.sha256)
     (sym (ap any_failed s.sha256.failed) ∙ two) in
     (λ i. record { sha1 = s.sha1.kept one i; sha256 = s.sha256.kept two i; files = s.files.kept last i })
 
-pub all_split : (kind : ListKind) (found : Lines) (f g h : Failed) (a b c : List (List ℕ)) → InTurn kind found f g h a b c → fault_of_failed h ≡ None → AreSplit kind found (record { sha1 = a; sha256 = b; files = c })
-all_split kind found f g h a b c s k = record { same = all_kept kind found f g h a b c s k; rest = names_next kind found f g h a b c s k }
+pub all_split : (most : ℕ) (kind : ListKind) (found : Lines) (f g h : Failed) (a b c : List (List ℕ)) → InTurn most kind found f g h a b c → fault_of_failed h ≡ None → AreSplit most kind found (record { sha1 = a; sha256 = b; files = c })
+all_split most kind found f g h a b c s k = record { same = all_kept most kind found f g h a b c s k; rest = names_next most kind found f g h a b c s k }

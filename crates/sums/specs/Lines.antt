@@ -1,5 +1,5 @@
 -- A line of a checksum list (Debian Policy 5.6.21, 5.6.24): its words, and what each has to be.
-use Rattle.std.specs.Prelude.{ℕ, ◌*◌, ◌-◌, ◌==◌, ◌&&◌, ◌||◌, nat_lt, nat_le, Bool, not, List, [], length, slice_index, slice_index_or}
+use Rattle.std.specs.Prelude.{ℕ, ◌*◌, ◌-◌, ◌==◌, ◌&&◌, ◌||◌, min, nat_lt, nat_le, Bool, not, List, [], length, slice_index, slice_index_or}
 use Rattle.std.specs.Char.{is_ascii_digit}
 use Rattle.std.specs.List.{list_any, list_all, slice_split}
 use Rattle.std.specs.Str.Parse.{digits_value}
@@ -39,13 +39,17 @@ is_lower_hex c = is_ascii_digit c || (nat_le 97 c && nat_le c 102)
 abbrev pub is_digest : ℕ → List ℕ → Bool
 is_digest bytes text = length text == 2 * bytes && list_all is_lower_hex text
 
--- the largest file
+-- the largest file of an archive whose configuration says nothing else: 4 MiB
 abbrev pub most_size : ℕ
 most_size = 4194304
 
--- a size: decimal digits without a leading zero, of at most `most_size`
-abbrev pub is_size : List ℕ → Bool
-is_size text = nat_lt 0 (length text) && list_all is_ascii_digit text && (length text == 1 || not (slice_index text 0 == 48)) && nat_le (digits_value 10 text) most_size
+-- the largest file of any archive: 1 GiB
+abbrev pub greatest_size : ℕ
+greatest_size = 1073741824
+
+-- a size: decimal digits without a leading zero, at most `most` and at most `greatest_size`
+abbrev pub is_size : ℕ → List ℕ → Bool
+is_size most text = nat_lt 0 (length text) && list_all is_ascii_digit text && (length text == 1 || not (slice_index text 0 == 48)) && nat_le (digits_value 10 text) (min most greatest_size)
 
 abbrev pub digest_word : List ℕ → List ℕ
 digest_word line = word line 0
@@ -64,8 +68,8 @@ has_bad_words form line = not (has_words form line)
 abbrev pub has_bad_digest : LineForm → List ℕ → Bool
 has_bad_digest form line = not (is_digest form.digest (digest_word line))
 
-abbrev pub has_bad_size : LineForm → List ℕ → Bool
-has_bad_size form line = not (is_size (size_word line))
+abbrev pub has_bad_size : ℕ → LineForm → List ℕ → Bool
+has_bad_size most form line = not (is_size most (size_word line))
 
 abbrev pub has_bad_name : LineForm → List ℕ → Bool
 has_bad_name form line = not (is_file_name (name_word form line))

@@ -1,5 +1,5 @@
 -- The three lists of files of a record, `Checksums-Sha1`, `Checksums-Sha256` and `Files` (Debian Policy 5.6.21, 5.6.24).
-use Rattle.std.specs.Prelude.{◌≡◌, ◌≢◌, ◌↔◌, ℕ, ◌<◌, ◌≤◌, ◌+◌, ◌-◌, ◌*◌, ◌==◌, ◌&&◌, ◌||◌, nat_lt, nat_le, Bool, true, false, not, if◌then◌else◌, List, [], ◌∷◌, length, map, codes, Option, Some, None, Result, Ok, Err, is_none, unwrap_or, Contains, AllPairs, All, MatchOption}
+use Rattle.std.specs.Prelude.{◌≡◌, ◌≢◌, ◌↔◌, ℕ, ◌<◌, ◌≤◌, ◌+◌, ◌-◌, ◌*◌, ◌==◌, ◌&&◌, ◌||◌, min, nat_lt, nat_le, Bool, true, false, not, if◌then◌else◌, List, [], ◌∷◌, length, map, codes, Option, Some, None, Result, Ok, Err, is_none, unwrap_or, Contains, AllPairs, All, MatchOption}
 use Rattle.std.specs.Fmt.{decimal}
 use Rattle.std.specs.List.{list_any, find, join_with_byte}
 use Rattle.std.specs.Option.{option_map}
@@ -13,7 +13,7 @@ use Rattle.sums.specs.declared.entries.Entry.{Entry}
 use Rattle.sums.specs.declared.entries.ListKind.{ListKind}
 use Rattle.sums.specs.declared.entries.ListKind.TheVariants.{Dsc, Changes}
 use Rattle.sums.specs.FileNames.{is_file_name}
-use Rattle.sums.specs.Lines.{LineForm, is_word, word, digest_word, size_word, name_word, most_size, has_bad_words, has_bad_digest, has_bad_size, has_bad_name}
+use Rattle.sums.specs.Lines.{LineForm, is_word, word, digest_word, size_word, name_word, most_size, greatest_size, has_bad_words, has_bad_digest, has_bad_size, has_bad_name}
 
 -- ---- what the lists say
 
@@ -69,9 +69,9 @@ pub record IsDigest (count : ℕ) (digest : List ℕ) : Type 0 where
   pub bytes : All (λ b. b < 256) digest
 
 -- a file of a record: its name and size are allowed, and each digest has its length
-pub record IsFile (kind : ListKind) (e : Entry) : Type 0 where
+pub record IsFile (most : ℕ) (kind : ListKind) (e : Entry) : Type 0 where
   pub name : is_file_name e.name ≡ true
-  pub size : e.print.size ≤ most_size
+  pub size : e.print.size ≤ min most greatest_size
   pub md5 : IsDigest 16 e.print.md5
   pub sha1 : IsDigest 20 e.print.sha1
   pub sha256 : IsDigest 32 e.print.sha256
@@ -94,26 +94,26 @@ SameMembers xs ys = (line : List ℕ) → Contains xs line ↔ Contains ys line
 
 -- The entries of three lists: each is the join of the three lines with its name. Every list has exactly these names, each
 -- once; the entries stand in the order of `Files`.
-pub record Listed (lines : Lines) (kind : ListKind) (entries : List Entry) : Type 0 where
+pub record Listed (most : ℕ) (lines : Lines) (kind : ListKind) (entries : List Entry) : Type 0 where
   pub files : map (files_line kind) entries ≡ lines.files
   pub sha1 : SameMembers (map sha1_line entries) lines.sha1
   pub sha1_once : AllPairs (λ a b. name_word sha1_form a ≢ name_word sha1_form b) lines.sha1
   pub sha256 : SameMembers (map sha256_line entries) lines.sha256
   pub sha256_once : AllPairs (λ a b. name_word sha256_form a ≢ name_word sha256_form b) lines.sha256
   pub names : AllPairs (λ a b. a.name ≢ b.name) entries
-  pub each : All (IsFile kind) entries
+  pub each : All (IsFile most kind) entries
   pub count : (0 < length entries) × (length entries ≤ 256)
 
 -- a list is there, and nothing stands after the colon of its name
 abbrev pub IsList : Option FieldValue → Type 0
 IsList field = MatchOption field ⊥ (λ f. f.first ≡ [])
 
--- a paragraph with the three lists of these entries
-pub record ListedIn (paragraph : List FieldValue) (kind : ListKind) (entries : List Entry) : Type 0 where
+-- a paragraph with the three lists of these entries, each of at most `most` bytes
+pub record ListedIn (most : ℕ) (paragraph : List FieldValue) (kind : ListKind) (entries : List Entry) : Type 0 where
   pub sha1 : IsList (field_named sha1_name paragraph)
   pub sha256 : IsList (field_named sha256_name paragraph)
   pub files : IsList (field_named files_name paragraph)
-  pub listed : Listed (lines_of paragraph) kind entries
+  pub listed : Listed most (lines_of paragraph) kind entries
 
 -- ---- when each fault applies, whatever the others do
 
@@ -162,29 +162,29 @@ abbrev pub any_disagree : ListKind → Lines → Bool
 any_disagree kind lines = disagree (map (name_and_size sha1_form) lines.sha1) (map (name_and_size (files_form kind)) lines.files)
     || disagree (map (name_and_size sha256_form) lines.sha256) (map (name_and_size (files_form kind)) lines.files)
 
--- the faults of the lines
-abbrev pub applies_to_lines : ListKind → Lines → ListFault → Bool
-applies_to_lines kind lines BadWords = some_line has_bad_words kind lines
-applies_to_lines kind lines BadDigest = some_line has_bad_digest kind lines
-applies_to_lines kind lines BadSize = some_line has_bad_size kind lines
-applies_to_lines kind lines BadName = some_line has_bad_name kind lines
-applies_to_lines kind lines NameTwice = any_twice kind lines
-applies_to_lines kind lines ListsDisagree = any_disagree kind lines
-applies_to_lines kind lines BadCount = length lines.files == 0 || nat_lt 256 (length lines.files)
-applies_to_lines kind lines _ = false
+-- the faults of the lines, of files of at most `most` bytes
+abbrev pub applies_to_lines : ℕ → ListKind → Lines → ListFault → Bool
+applies_to_lines most kind lines BadWords = some_line has_bad_words kind lines
+applies_to_lines most kind lines BadDigest = some_line has_bad_digest kind lines
+applies_to_lines most kind lines BadSize = some_line (has_bad_size most) kind lines
+applies_to_lines most kind lines BadName = some_line has_bad_name kind lines
+applies_to_lines most kind lines NameTwice = any_twice kind lines
+applies_to_lines most kind lines ListsDisagree = any_disagree kind lines
+applies_to_lines most kind lines BadCount = length lines.files == 0 || nat_lt 256 (length lines.files)
+applies_to_lines most kind lines _ = false
 
-abbrev pub applies : ListKind → List FieldValue → ListFault → Bool
-applies kind paragraph ListAbsent = is_absent paragraph sha1_name || is_absent paragraph sha256_name || is_absent paragraph files_name
-applies kind paragraph TextOnFirstLine = has_first paragraph sha1_name || has_first paragraph sha256_name || has_first paragraph files_name
-applies kind paragraph fault = applies_to_lines kind (lines_of paragraph) fault
+abbrev pub applies : ℕ → ListKind → List FieldValue → ListFault → Bool
+applies most kind paragraph ListAbsent = is_absent paragraph sha1_name || is_absent paragraph sha256_name || is_absent paragraph files_name
+applies most kind paragraph TextOnFirstLine = has_first paragraph sha1_name || has_first paragraph sha256_name || has_first paragraph files_name
+applies most kind paragraph fault = applies_to_lines most kind (lines_of paragraph) fault
 
 -- the faults of a paragraph, in the order of their numbers
 abbrev pub faults : List ListFault
 faults = ListAbsent ∷ TextOnFirstLine ∷ BadWords ∷ BadDigest ∷ BadSize ∷ BadName ∷ NameTwice ∷ ListsDisagree ∷ BadCount ∷ []
 
 -- the fault of lowest number that applies to a paragraph
-abbrev pub fault : ListKind → List FieldValue → Option ListFault
-fault kind paragraph = find (applies kind paragraph) faults
+abbrev pub fault : ℕ → ListKind → List FieldValue → Option ListFault
+fault most kind paragraph = find (applies most kind paragraph) faults
 
 -- ---- reading lists without a fault
 
@@ -233,6 +233,10 @@ abbrev pub refused_or : Option ListFault → List Entry → Result (List Entry) 
 refused_or None entries = Ok entries
 refused_or (Some fault) entries = Err fault
 
--- the entries of a paragraph, or the fault of lowest number
-unfoldable pub lists_in : ListKind → List FieldValue → Result (List Entry) ListFault
-lists_in kind paragraph = refused_or (fault kind paragraph) (entries_of kind (lines_of paragraph))
+-- the entries of a paragraph, of files of at most `most` bytes, or the fault of lowest number
+unfoldable pub lists_within : ℕ → ListKind → List FieldValue → Result (List Entry) ListFault
+lists_within most kind paragraph = refused_or (fault most kind paragraph) (entries_of kind (lines_of paragraph))
+
+-- the entries of a paragraph, of files of at most `most_size` bytes, or the fault of lowest number
+abbrev pub lists_in : ListKind → List FieldValue → Result (List Entry) ListFault
+lists_in kind paragraph = lists_within most_size kind paragraph

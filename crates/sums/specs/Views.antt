@@ -39,20 +39,20 @@ abbrev pub in_names : SizedName → NameAndSize
 in_names s = record { name = s.name.now; size = s.size.now }
 
 -- the checks that failed before, or that a line fails
-abbrev pub with_line : Failed → LineForm → List ℕ → Failed
-with_line f form line = record {
+abbrev pub with_line : ℕ → Failed → LineForm → List ℕ → Failed
+with_line most f form line = record {
   words = f.words || has_bad_words form line;
   digest = f.digest || has_bad_digest form line;
-  size = f.size || has_bad_size form line;
+  size = f.size || has_bad_size most form line;
   name = f.name || has_bad_name form line;
 }
 
 -- the checks that failed before, or that some of the lines fail
-abbrev pub with_lines : Failed → LineForm → List (List ℕ) → Failed
-with_lines f form lines = record {
+abbrev pub with_lines : ℕ → Failed → LineForm → List (List ℕ) → Failed
+with_lines most f form lines = record {
   words = f.words || list_any (has_bad_words form) lines;
   digest = f.digest || list_any (has_bad_digest form) lines;
-  size = f.size || list_any (has_bad_size form) lines;
+  size = f.size || list_any (has_bad_size most form) lines;
   name = f.name || list_any (has_bad_name form) lines;
 }
 
@@ -64,17 +64,17 @@ abbrev pub fault_of_failed : Failed → Option ListFault
 fault_of_failed f = if f.words then Some BadWords else if f.digest then Some BadDigest else if f.size then Some BadSize else if f.name then Some BadName else None
 
 -- texts are split: the checks that failed are known, and if no check failed, all lines are kept
-pub record IsSplit (before : Failed) (form : LineForm) (texts : List (List ℕ)) (after : Failed) (lines : List (List ℕ)) : Type 0 where
-  pub failed : after ≡ with_lines before form texts
+pub record IsSplit (most : ℕ) (before : Failed) (form : LineForm) (texts : List (List ℕ)) (after : Failed) (lines : List (List ℕ)) : Type 0 where
+  pub failed : after ≡ with_lines most before form texts
   pub kept : any_failed after ≡ false → lines ≡ texts
 
 -- the lowest fault that applies, from `BadWords` on
-abbrev pub fault_of_lines : ListKind → Lines → Option ListFault
-fault_of_lines kind lines = find (applies_to_lines kind lines) (drop 2 faults)
+abbrev pub fault_of_lines : ℕ → ListKind → Lines → Option ListFault
+fault_of_lines most kind lines = find (applies_to_lines most kind lines) (drop 2 faults)
 
 -- the lowest fault that applies, from `NameTwice` on
-abbrev pub fault_of_names : ListKind → Lines → Option ListFault
-fault_of_names kind lines = find (applies_to_lines kind lines) (drop 6 faults)
+abbrev pub fault_of_names : ℕ → ListKind → Lines → Option ListFault
+fault_of_names most kind lines = find (applies_to_lines most kind lines) (drop 6 faults)
 
 -- the size at a name
 abbrev pub size_in : BTreeMap (Bor (List ℕ)) (Bor (List ℕ)) → List ℕ → Option (List ℕ)
@@ -106,16 +106,16 @@ pub record AreFileLists (kind : ListKind) (lines : Lines) (lists : FileLists) : 
   pub once : any_twice kind lines ≡ false
 
 -- the three lists of a paragraph, each there with nothing after its colon
-pub record AreLists (kind : ListKind) (paragraph : List FieldValue) (lists : FoundLists) : Type 0 where
+pub record AreLists (most : ℕ) (kind : ListKind) (paragraph : List FieldValue) (lists : FoundLists) : Type 0 where
   pub lines : lines_found lists ≡ lines_of paragraph
-  pub rest : fault kind paragraph ≡ fault_of_lines kind (lines_of paragraph)
+  pub rest : fault most kind paragraph ≡ fault_of_lines most kind (lines_of paragraph)
 
 -- the lines of lists, each split; no line is wrong by itself
-pub record AreSplit (kind : ListKind) (found : Lines) (lines : Lines) : Type 0 where
+pub record AreSplit (most : ℕ) (kind : ListKind) (found : Lines) (lines : Lines) : Type 0 where
   pub same : lines ≡ found
-  pub rest : fault_of_lines kind found ≡ fault_of_names kind found
+  pub rest : fault_of_lines most kind found ≡ fault_of_names most kind found
 
 -- the entries of lists to which no fault from `BadWords` on applies
-pub record AreEntries (kind : ListKind) (lines : Lines) (entries : List Entry) : Type 0 where
-  pub faultless : fault_of_lines kind lines ≡ None
+pub record AreEntries (most : ℕ) (kind : ListKind) (lines : Lines) (entries : List Entry) : Type 0 where
+  pub faultless : fault_of_lines most kind lines ≡ None
   pub entries_are : entries ≡ entries_of kind lines

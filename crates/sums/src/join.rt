@@ -5,7 +5,7 @@ ghost use Rattle.std.specs.List.{find};
 ghost use Rattle.std.specs.Option.{option_map};
 ghost use Rattle.std.specs.Str.{bytes_eq};
 ghost use Rattle.std.specs.Str.Parse.{digits_value};
-ghost use Rattle.sums.specs.Lines.{is_digest, is_size, digest_word, name_word};
+ghost use Rattle.sums.specs.Lines.{is_digest, is_size, digest_word, name_word, greatest_size};
 ghost use Rattle.sums.specs.Lists.{files_form, unhexed, digest_named, section_word, priority_word, entry_of_line, entries_of};
 ghost use Rattle.sums.specs.Views.{line_form, lines_in, fault_of_lines};
 
@@ -44,6 +44,8 @@ pub struct Lists<'a> {
     pub sha256: &'a [Line<'a>],
     pub files: &'a [Line<'a>],
     pub kind: ListKind,
+    /// The most bytes of a file.
+    pub most: u64,
 }
 
 /// What the lines of `Files` are like.
@@ -66,7 +68,7 @@ fn digest<const N: usize>(word: &str) -> [u8; N]
 
 /// The size that a word writes.
 fn size(word: &str) -> u64
-    requires { is_size word.now ≡ true }
+    requires { is_size greatest_size word.now ≡ true }
     ensures { result ≡ digits_value 10 word.now }
 {
     word.parse::<u64>().unwrap()
@@ -117,7 +119,7 @@ fn priority<'a>(kind: ListKind, line: &Line<'a>) -> &'a str
 
 /// The join of a line of `Files` with the lines of its name.
 fn joined_entry(alloc: Global, lists: Lists<'_>, line: &Line<'_>) -> Result<Entry, ListFault>
-    requires faultless { fault_of_lines lists.kind (lines_in lists) ≡ None }
+    requires faultless { fault_of_lines lists.most lists.kind (lines_in lists) ≡ None }
     requires listed { Contains (lines_in lists).files line.now }
     ensures joined { IfOk result (λ entry. entry ≡ entry_of_line lists.entry.kind (lines_in lists.entry) line.now) }
     ensures memory { IfErr result (λ fault. fault ≡ ListFault.OutOfMemory) }
@@ -139,7 +141,7 @@ fn joined_entry(alloc: Global, lists: Lists<'_>, line: &Line<'_>) -> Result<Entr
 
 /// The entries of lists without a fault, in the order of `Files`.
 pub fn entries(alloc: Global, lists: Lists<'_>) -> Result<Vec<Entry>, ListFault>
-    requires { fault_of_lines lists.kind (lines_in lists) ≡ None }
+    requires { fault_of_lines lists.most lists.kind (lines_in lists) ≡ None }
     ensures joined { IfOk result (λ entries. entries.items ≡ entries_of lists.entry.kind (lines_in lists.entry)) }
     ensures memory { IfErr result (λ fault. fault ≡ ListFault.OutOfMemory) }
 {

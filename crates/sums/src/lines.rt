@@ -2,10 +2,10 @@
 //!
 //! A test of bytes looks at all of them and does not branch, so that several bytes are tested at once.
 
-ghost use Rattle.std.specs.Prelude.{◌≡◌, ◌==◌, ◌<◌, ◌&&◌, nat_lt, nat_le, slice_index, true, length, map, IfOk};
+ghost use Rattle.std.specs.Prelude.{◌≡◌, ◌==◌, ◌<◌, ◌&&◌, min, nat_lt, nat_le, slice_index, true, length, map, IfOk};
 ghost use Rattle.std.specs.Char.{is_ascii_digit};
 ghost use Rattle.std.specs.List.{list_any, list_all};
-ghost use Rattle.sums.specs.Lines.{word, words, has_words, is_lower_hex, is_digest, is_size, is_tab, most_size};
+ghost use Rattle.sums.specs.Lines.{word, words, has_words, is_lower_hex, is_digest, is_size, is_tab, greatest_size};
 ghost use Rattle.sums.specs.Views.{IsSplit, line_form, with_line, any_failed};
 ghost use Rattle.std.specs.Str.Parse.{digits_value};
 
@@ -13,8 +13,11 @@ use crate::file_name::is_file_name;
 use std::alloc::{AllocError, Global};
 use std::marker::Model;
 
-/// The most bytes of a file (own rule of this archive).
+/// The most bytes that a file may have if a configuration says nothing else: 4 MiB (own rule of this archive).
 pub const MOST_SIZE: u64 = 4_194_304;
+
+/// The most bytes that a file may have in any archive: 1 GiB (own rule of this archive).
+pub const GREATEST_SIZE: u64 = 1_073_741_824;
 
 /// What the lines of a list are like.
 #[derive(Clone, Copy)]
@@ -146,13 +149,13 @@ fn is_digits(word: &str) -> bool
     all
 }
 
-/// Whether the size of a file is at most the largest.
-fn is_small(digits: &str) -> bool
+/// Whether the size of a file is at most `most` bytes, and at most `GREATEST_SIZE`.
+fn is_small(most: u64, digits: &str) -> bool
     requires { list_all is_ascii_digit digits.now ≡ true }
-    ensures { result ≡ (nat_lt 0 (length digits.now) && nat_le (digits_value 10 digits.now) most_size) }
+    ensures { result ≡ (nat_lt 0 (length digits.now) && nat_le (digits_value 10 digits.now) (min most greatest_size)) }
 {
     match digits.parse::<u32>() {
-        Ok(size) => u64::from(size) <= MOST_SIZE,
+        Ok(size) => u64::from(size) <= most.min(GREATEST_SIZE),
         Err(_) => false,
     }
 }
@@ -166,26 +169,26 @@ fn begins_with_zero(digits: &str) -> bool
     }
 }
 
-/// Whether a word is the size of a file.
-fn is_size(word: &str) -> bool
-    ensures { result ≡ is_size word.now }
+/// Whether a word is the size of a file of at most `most` bytes.
+fn is_size(most: u64, word: &str) -> bool
+    ensures { result ≡ is_size most word.now }
 {
     if !is_digits(word) {
         return false;
     }
-    let small = is_small(word);
+    let small = is_small(most, word);
     let zero = begins_with_zero(word);
     (word.len() == 1 || !zero) && small
 }
 
 /// The checks that failed before, or that a line fails.
-fn with_line(failed: Failed, form: Form, line: &Line<'_>) -> Failed
+fn with_line(most: u64, failed: Failed, form: Form, line: &Line<'_>) -> Failed
     requires { 0 < form.words }
-    ensures { result ≡ with_line failed (line_form form) line.now }
+    ensures { result ≡ with_line most failed (line_form form) line.now }
 {
     let words = has_words(form, line);
     let digest = is_digest(form.digest, word(line, 0));
-    let size = is_size(word(line, 1));
+    let size = is_size(most, word(line, 1));
     let name = is_file_name(word(line, form.words - 1));
     Failed {
         words: failed.words || !words,
@@ -208,22 +211,23 @@ pub struct SplitList<'a> {
     pub failed: Failed,
 }
 
-/// Splits the lines of a list, and tries them. Lines are kept while no check has failed, so that those of a list that is
+/// Splits the lines of a list of files of at most `most` bytes, and tries them. Lines are kept while no check has failed, so that those of a list that is
 /// refused take little memory.
 pub fn split_list<'a>(
     alloc: Global,
+    most: u64,
     form: Form,
     texts: &[&'a str],
     before: Failed,
 ) -> Result<SplitList<'a>, AllocError>
     requires { 0 < form.words }
-    ensures { IfOk result (λ list. IsSplit before (line_form form) (map (λ text. text.now) texts.now) list.failed list.lines.items) }
+    ensures { IfOk result (λ list. IsSplit most before (line_form form) (map (λ text. text.now) texts.now) list.failed list.lines.items) }
 {
     let mut failed = before;
     let mut lines = Vec::new(alloc);
     for text in texts {
         let line = Line::new(alloc, form.words, text)?;
-        failed = with_line(failed, form, &line);
+        failed = with_line(most, failed, form, &line);
         if !any_failed(failed) {
             lines.push(line)?;
         }

@@ -1,14 +1,15 @@
 //! The three lists of files of a record, `Checksums-Sha1`, `Checksums-Sha256` and `Files`.
 
 ghost use Rattle.std.specs.Prelude.{◌≡◌, ◌==◌, ◌⊎◌, ◌||◌, nat_lt, Ok, Err, Some, None, IfOk, IfErr, MatchResult, length};
-ghost use Rattle.sums.specs.Lists.{Lines, ListedIn, lists_in, any_disagree};
+ghost use Rattle.sums.specs.Lists.{Lines, ListedIn, lists_in, lists_within, any_disagree};
+ghost use Rattle.sums.specs.Lines.{most_size};
 ghost use Rattle.sums.specs.declared.entries.ListKind.{ListKind};
 ghost use Rattle.sums.specs.Views.{AreFileLists, AreEntries, AreLists, AreSplit, lines_in, lines_found, lines_split, fault_of_failed, fault_of_lines, fault_of_names};
 
 use crate::entries::{Entry, ListKind};
 use crate::fault::ListFault;
 use crate::join::{Lists, SHA1_FORM, SHA256_FORM, entries, files_form};
-use crate::lines::{Failed, Line, NONE_FAILED, split_list};
+use crate::lines::{Failed, Line, MOST_SIZE, NONE_FAILED, split_list};
 use crate::sizes::{FileList, disagree, file_list};
 use para::{Field, Paragraph};
 use std::alloc::Global;
@@ -54,7 +55,7 @@ impl<'a> Drop for FileLists<'a> {
 
 /// The files of the three lists. No list has a name twice.
 fn file_lists<'a>(alloc: Global, lists: Lists<'a>) -> Result<FileLists<'a>, ListFault>
-    ensures { MatchResult result (AreFileLists lists.entry.kind (lines_in lists.entry)) (λ e. (e ≡ ListFault.OutOfMemory) ⊎ (fault_of_names lists.entry.kind (lines_in lists.entry) ≡ Some e)) }
+    ensures { MatchResult result (AreFileLists lists.entry.kind (lines_in lists.entry)) (λ e. (e ≡ ListFault.OutOfMemory) ⊎ (fault_of_names lists.entry.most lists.entry.kind (lines_in lists.entry) ≡ Some e)) }
 {
     let Some(sha1) = file_list(alloc, SHA1_FORM, lists.sha1)? else {
         return Err(ListFault::NameTwice);
@@ -88,7 +89,7 @@ fn is_bad_count(files: &[Line<'_>]) -> bool
 
 /// Checks the names, sizes and number of the files: the faults of the lists from `NameTwice` on.
 fn check_names(alloc: Global, lists: Lists<'_>) -> Result<(), ListFault>
-    ensures { MatchResult result (λ _. fault_of_names lists.entry.kind (lines_in lists.entry) ≡ None) (λ e. (e ≡ ListFault.OutOfMemory) ⊎ (fault_of_names lists.entry.kind (lines_in lists.entry) ≡ Some e)) }
+    ensures { MatchResult result (λ _. fault_of_names lists.entry.most lists.entry.kind (lines_in lists.entry) ≡ None) (λ e. (e ≡ ListFault.OutOfMemory) ⊎ (fault_of_names lists.entry.most lists.entry.kind (lines_in lists.entry) ≡ Some e)) }
 {
     let found = file_lists(alloc, lists)?;
     if some_disagree(&found) {
@@ -116,8 +117,12 @@ struct FoundLists<'p> {
 }
 
 /// The lines of the three lists.
-fn find_lists<'p>(paragraph: &'p Paragraph<'p>, kind: ListKind) -> Result<FoundLists<'p>, ListFault>
-    ensures { MatchResult result (λ lists. AreLists kind paragraph.now lists) (λ e. lists_in kind paragraph.now ≡ Err e) }
+fn find_lists<'p>(
+    paragraph: &'p Paragraph<'p>,
+    kind: ListKind,
+    most: u64,
+) -> Result<FoundLists<'p>, ListFault>
+    ensures { MatchResult result (λ lists. AreLists most kind paragraph.now lists) (λ e. lists_within most kind paragraph.now ≡ Err e) }
 {
     let Some(sha1) = paragraph.get("Checksums-Sha1") else {
         return Err(ListFault::ListAbsent);
@@ -161,12 +166,13 @@ fn split_lists<'a>(
     alloc: Global,
     found: FoundLists<'a>,
     kind: ListKind,
+    most: u64,
 ) -> Result<SplitLists<'a>, ListFault>
-    ensures { MatchResult result (λ lists. AreSplit kind (lines_found found.entry) (lines_split lists)) (λ e. (e ≡ ListFault.OutOfMemory) ⊎ (fault_of_lines kind (lines_found found.entry) ≡ Some e)) }
+    ensures { MatchResult result (λ lists. AreSplit most kind (lines_found found.entry) (lines_split lists)) (λ e. (e ≡ ListFault.OutOfMemory) ⊎ (fault_of_lines most kind (lines_found found.entry) ≡ Some e)) }
 {
-    let sha1 = split_list(alloc, SHA1_FORM, found.sha1, NONE_FAILED)?;
-    let sha256 = split_list(alloc, SHA256_FORM, found.sha256, sha1.failed)?;
-    let files = split_list(alloc, files_form(kind), found.files, sha256.failed)?;
+    let sha1 = split_list(alloc, most, SHA1_FORM, found.sha1, NONE_FAILED)?;
+    let sha256 = split_list(alloc, most, SHA256_FORM, found.sha256, sha1.failed)?;
+    let files = split_list(alloc, most, files_form(kind), found.files, sha256.failed)?;
     check_failed(files.failed)?;
     Ok(SplitLists {
         sha1: sha1.lines,
@@ -177,8 +183,8 @@ fn split_lists<'a>(
 
 /// The entries of lists in which no line is wrong by itself.
 fn read_lines(alloc: Global, lists: Lists<'_>) -> Result<Vec<Entry>, ListFault>
-    requires { fault_of_lines lists.kind (lines_in lists) ≡ fault_of_names lists.kind (lines_in lists) }
-    ensures { MatchResult result (λ entries. AreEntries lists.entry.kind (lines_in lists.entry) entries.items) (λ e. (e ≡ ListFault.OutOfMemory) ⊎ (fault_of_lines lists.entry.kind (lines_in lists.entry) ≡ Some e)) }
+    requires { fault_of_lines lists.most lists.kind (lines_in lists) ≡ fault_of_names lists.most lists.kind (lines_in lists) }
+    ensures { MatchResult result (λ entries. AreEntries lists.entry.most lists.entry.kind (lines_in lists.entry) entries.items) (λ e. (e ≡ ListFault.OutOfMemory) ⊎ (fault_of_lines lists.entry.most lists.entry.kind (lines_in lists.entry) ≡ Some e)) }
 {
     check_names(alloc, lists)?;
     entries(alloc, lists)
@@ -188,19 +194,21 @@ fn read_lines(alloc: Global, lists: Lists<'_>) -> Result<Vec<Entry>, ListFault>
 ///
 /// A list has nothing after the colon of its name, and then a line for each file: digest, size and name, and in the `Files`
 /// of a .changes MD5, size, section, priority and name. Own rules of this archive: single spaces and no tab, digests in
-/// lower-case hexadecimal of full length, sizes decimal without leading zeros and of at most 4194304, 1 to 256 files, each
-/// once in each list and with the same size in all. If several faults apply, the answer is the one of lowest number.
-pub fn read_lists(
+/// lower-case hexadecimal of full length, sizes decimal without leading zeros and of at most `most` bytes (never more than
+/// `GREATEST_SIZE`), 1 to 256 files, each once in each list and with the same size in all. If several faults apply, the
+/// answer is the one of lowest number.
+pub fn read_lists_within(
     alloc: Global,
     paragraph: &Paragraph<'_>,
     kind: ListKind,
+    most: u64,
 ) -> Result<Vec<Entry>, ListFault>
-    ensures read { IfOk result (λ entries. lists_in kind paragraph.now ≡ Ok entries.items) }
-    ensures listed { IfOk result (λ entries. ListedIn paragraph.now kind entries.items) }
-    ensures refused { IfErr result (λ e. (e ≡ ListFault.OutOfMemory) ⊎ (lists_in kind paragraph.now ≡ Err e)) }
+    ensures read { IfOk result (λ entries. lists_within most kind paragraph.now ≡ Ok entries.items) }
+    ensures listed { IfOk result (λ entries. ListedIn most paragraph.now kind entries.items) }
+    ensures refused { IfErr result (λ e. (e ≡ ListFault.OutOfMemory) ⊎ (lists_within most kind paragraph.now ≡ Err e)) }
 {
-    let found = find_lists(paragraph, kind)?;
-    let split = split_lists(alloc, found, kind)?;
+    let found = find_lists(paragraph, kind, most)?;
+    let split = split_lists(alloc, found, kind, most)?;
     read_lines(
         alloc,
         Lists {
@@ -208,6 +216,20 @@ pub fn read_lists(
             sha256: split.sha256.as_slice(),
             files: split.files.as_slice(),
             kind,
+            most,
         },
     )
+}
+
+/// Reads the three lists as `read_lists_within` does, with sizes of at most `MOST_SIZE` bytes.
+pub fn read_lists(
+    alloc: Global,
+    paragraph: &Paragraph<'_>,
+    kind: ListKind,
+) -> Result<Vec<Entry>, ListFault>
+    ensures read { IfOk result (λ entries. lists_in kind paragraph.now ≡ Ok entries.items) }
+    ensures listed { IfOk result (λ entries. ListedIn most_size paragraph.now kind entries.items) }
+    ensures refused { IfErr result (λ e. (e ≡ ListFault.OutOfMemory) ⊎ (lists_in kind paragraph.now ≡ Err e)) }
+{
+    read_lists_within(alloc, paragraph, kind, MOST_SIZE)
 }

@@ -11,7 +11,7 @@ use Rattle.sqlite.specs.Collation.TheVariants.{Binary}
 use Rattle.sqlite_sql.specs.Term.{op2}
 use Rattle.sqlite_sql.specs.declared.ops.BinaryOp.TheVariants.{Compare}
 use Rattle.sqlite_sql.specs.declared.ops.CompareOp.TheVariants.{Eq}
-use Rattle.tables.specs.declared.pieces.TheConstants.{INSERT_PIECE, SELECT_PIECE, SELECT_PIECES_OF, DELETE_PIECES}
+use Rattle.tables.specs.declared.pieces.TheConstants.{INSERT_PIECE, SELECT_PIECE, SELECT_PIECES_OF, DELETE_PIECE, DELETE_PIECES}
 use Rattle.tables.specs.Others.{Others, with_others}
 use Rattle.tables.proofs.SelectLemmas.{rows_query}
 use Rattle.tables.proofs.UpdateLemmas.{edit_query}
@@ -62,3 +62,11 @@ select_piece_is o = (refl, refl)
 pub select_piece_plain : (o : Others) → IsPlain (understood (with_others o) SELECT_PIECE.now)
 unfolding understood everything
 select_piece_plain o = (refl, refl)
+
+pub delete_piece_is : (o : Others) → command_of (understood (with_others o) DELETE_PIECE.now) ≡ Delete 2 (record { lets = []; body = edit_query 3 piece_is delete_pieces_columns })
+unfolding understood everything
+delete_piece_is o = refl
+
+pub delete_piece_plain : (o : Others) → IsPlain (understood (with_others o) DELETE_PIECE.now)
+unfolding understood everything
+delete_piece_plain o = (refl, refl)

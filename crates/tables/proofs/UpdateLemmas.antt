@@ -1,8 +1,9 @@
 -- What an UPDATE or a DELETE of the rows that pass a test leaves of a table.
-use Rattle.std.proofs.Common.{◌≡◌, ◌≢◌, ◌≤◌, ℕ, ◌<◌, ℤ, ◌<ℤ◌, not, pos, negsuc, Bool, false, cond, List, [], ◌∷◌, map, filter, fold, drop, slice_get, Some, None, Ok, refl, sym, ap, subst, subst₂, ◌∙◌, IsPermutation}
+use Rattle.std.proofs.Common.{◌≡◌, ◌≢◌, ◌≤◌, ℕ, ◌<◌, ℤ, ◌<ℤ◌, not, pos, negsuc, Bool, false, cond, List, [], ◌∷◌, map, filter, fold, drop, slice_get, Some, None, Ok, refl, sym, ap, subst, subst₂, ◌∙◌, IsPermutation, length, unwrap_or}
 use Rattle.std.specs.List.{AllByRecursion, list_all}
 use Rattle.std.proofs.lemmas.Bool.{cond_both}
-use Rattle.std.proofs.lemmas.List.Sorted.{IsPermutation-map}
+use Rattle.std.proofs.lemmas.List.{length-map}
+use Rattle.std.proofs.lemmas.List.Sorted.{IsPermutation-map, length_permutation}
 use Rattle.sqlite.specs.Order.{Row}
 use Rattle.sqlite.specs.declared.types.Value.TheVariants.{Null, Int}
 use Rattle.sqlite_trees.specs.Tree.{Trees, rowid, put_row}
@@ -91,10 +92,10 @@ module _ (sql : List ℕ) (at : ℕ) (q : Query) (plain : (o : Others) → IsPla
         )
 
   module _ (is : (o : Others) → command_of (understood (with_others o) sql) ≡ Delete at (record { lets = []; body = q })) where
-    -- a DELETE
-    pub deletes : (old new : State) (params : Row) (count : ℕ) → IsArchiveSchema old.now.schema → Executes sql params old new (Ok count)
-        → (found : List Row) × IsAnswer q (overlay old.now.trees []) params found × Edits into.tree found [] old new
-    deletes old new params count was h =
+    -- a DELETE, and how many rows it took
+    pub deletes_counted : (old new : State) (params : Row) (count : ℕ) → IsArchiveSchema old.now.schema → Executes sql params old new (Ok count)
+        → (found : List Row) × IsAnswer q (overlay old.now.trees []) params found × Edits into.tree found [] old new × (count ≡ length found)
+    deletes_counted old new params count was h =
         let o = others_in old.now.schema in
         let schema = with_others o in
         let has = was.is in
@@ -103,12 +104,14 @@ module _ (sql : List ℕ) (at : ℕ) (q : Query) (plain : (o : Others) → IsPla
         let text = statement_of sql (understood schema sql) in
         let change = subst (λ s. Does old.step_limit (mode_of old) params (record old.now { schema = s }) text None (Delete at (record { lets = []; body = q })) (Ok (w.tally, new.now))) has w.changed in
         let done = went (rw (there o) at change) in
-        let now = ap (λ (p : Tally × Database). p.1) (same_value (went (went done.2).2).2) in
+        let told = same_value (went (went done.2).2).2 in
+        let now = ap (λ (p : Tally × Database). p.1) told in
         let given = went done.1 in
         let written = went given.2 in
         let found = given.0 in
         let edit = edit_of db into (ids_of found) Given 0 [] in
         let trees : done.0.trees ≡ written.0 = ap (λ (it : Written). it.trees) (same_value written.2) in
+        let taken : done.0.rows ≡ taken_by db edit = ap (λ (it : Written). it.rows) (same_value written.2) in
         let applied = one_step schema Enforced db written.0 edit (calm o was.apart into.tree low (taken_by db edit) edit.news) written.1 in
         let all : new.now.trees ≡ written.0 = ap (λ (d : Database). d.trees) now ∙ trees in (
           found,
@@ -118,7 +121,13 @@ module _ (sql : List ℕ) (at : ℕ) (q : Query) (plain : (o : Others) → IsPla
             rows = ap (λ (t : Trees). t into.tree) all ∙ applied.rows;
             others = subst (λ (n : Trees). AllByRecursion (λ t. t.tree ≢ into.tree → n t.tree ≡ db t.tree) archive_schema.tables) (sym all) (own_tables (λ t. t.tree ≢ into.tree → written.0 t.tree ≡ db t.tree) o applied.tables);
           },
+          w.counted ∙ ap (λ (p : Tally × Database). unwrap_or p.0.rows 0) told ∙ ap length taken ∙ length-map (ids_of found) _ ∙ length-map found _,
         )
+
+    -- a DELETE
+    pub deletes : (old new : State) (params : Row) (count : ℕ) → IsArchiveSchema old.now.schema → Executes sql params old new (Ok count)
+        → (found : List Row) × IsAnswer q (overlay old.now.trees []) params found × Edits into.tree found [] old new
+    deletes old new params count was h = let did = deletes_counted old new params count was h in (did.0, did.1, did.2)
 
 numbered_given : (rows news : List Row) → numbered Given rows news ≡ news
 numbered_given rows [] = refl
@@ -156,6 +165,10 @@ module _ {X : Type 0} (cells : X → Row) (tree : ℕ) (where_ project : List Te
         let ids : ids_of found ≡ map key image.of = ap ids_of image.are ∙ map-map (λ r. id_in (rowid r)) show image.of ∙ map_same _ key names image.of in
         ap (λ rows. without_all rows (ids_of found)) has.are ∙ ap (without_all (map (stored cells) xs)) ids
         ∙ deleted key (stored cells) (λ _. refl) p xs (map key image.of) keyed (IsPermutation-map key (filter p xs) image.of image.same)
+
+    -- as many rows are found as pass
+    pub found_length : length found ≡ length (filter p xs)
+    found_length = ap length image.are ∙ length-map image.of show ∙ length_permutation (filter p xs) image.of image.same
 
     pub deletes_rows : Edits tree found [] old new → HasRows cells (without p xs) (new.now.trees tree)
     deletes_rows edits = record { are = edits.rows ∙ left; rise = ascending-filter (λ a b. a.0 < b.0) (λ x. not (p x)) xs has.rise }

@@ -14,3 +14,7 @@ is_piece body number x = nat_eq x.body body && nat_eq x.number number
 -- the pieces of this body are gone
 abbrev pub without_pieces : ℕ → Tables → Tables
 without_pieces body t = record t { pieces = without (λ x. is_of body x.1) t.pieces }
+
+-- the piece of this body at this place is gone
+abbrev pub without_piece : ℕ → ℕ → Tables → Tables
+without_piece body number t = record t { pieces = without (λ x. is_piece body number x.1) t.pieces }

@@ -2,7 +2,7 @@
 
 ghost use Rattle.std.specs.Prelude.{◌≡◌, ◌↔◌, ◌≤◌, All, true, Ok, IsTrue, IfOk, length};
 ghost use Rattle.sums.specs.FileNames.{is_changes_name};
-ghost use Rattle.sums.specs.Lines.{most_size};
+ghost use Rattle.sums.specs.Lines.{greatest_size};
 ghost use Rattle.keep.specs.Keeping.{IsDeliverable};
 ghost use Rattle.records.specs.Records.{changes_in};
 ghost use Rattle.records.specs.Values.{ChangesValue};
@@ -16,7 +16,7 @@ use crate::pieces::Pieces;
 use keep::LATEST;
 use records::{Changes, RecordFault};
 use std::alloc::{AllocError, Global};
-use sums::{MOST_SIZE, is_changes_name, is_file_name};
+use sums::{GREATEST_SIZE, is_changes_name, is_file_name};
 use tables::rows::ArrivalRow;
 use tables_read::AllRows;
 
@@ -31,11 +31,11 @@ fn is_record(alloc: Global, text: &[u8]) -> Result<bool, AllocError>
     }
 }
 
-/// Whether a body has no more bytes than an arrival may have.
+/// Whether a body has no more bytes than an arrival may have in any archive. What came before the limit was lowered stays.
 fn is_small(pieces: &Pieces<'_>, id: u64) -> bool
-    ensures { IsTrue result ↔ (length (bytes_of (tables_with pieces.now.all.now) id) ≤ most_size) }
+    ensures { IsTrue result ↔ (length (bytes_of (tables_with pieces.now.all.now) id) ≤ greatest_size) }
 {
-    size_of(pieces, id) as u64 <= MOST_SIZE
+    size_of(pieces, id) as u64 <= GREATEST_SIZE
 }
 
 /// Whether a body is the record of an upload. Only a body whose name is that of a .changes has to be one.

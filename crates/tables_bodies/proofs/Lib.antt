@@ -5,3 +5,4 @@ pub mod SparedLemmas
 pub mod CleanLemmas
 pub mod ArrivedLemmas
 pub mod AtOnceLemmas
+pub mod ThinnedLemmas

@@ -5,3 +5,5 @@ pub mod Swept
 pub mod Counting
 pub mod AtOnce
 pub mod Calls
+pub mod FilePieces
+pub mod Thinned

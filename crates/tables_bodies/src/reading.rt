@@ -31,11 +31,20 @@ fn in_order(mut pieces: Vec<Piece>) -> Result<Vec<Piece>, AllocError>
     Ok(pieces)
 }
 
+/// How many bytes pieces have together, which says how much room to take at once. Nothing that is answered rests on it.
+fn room_for(pieces: &[Piece]) -> usize {
+    let mut room: usize = 0;
+    for piece in pieces {
+        room = room.saturating_add(piece.bytes.as_slice().len());
+    }
+    room
+}
+
 /// The bytes of pieces, one after another.
 pub fn joined(alloc: Global, pieces: &[Piece]) -> Result<Vec<u8>, AllocError>
     ensures { IfOk result (λ bytes. bytes.items ≡ flat_map (λ p. p.bytes) pieces.now) }
 {
-    let mut bytes = Vec::new(alloc);
+    let mut bytes = Vec::with_capacity(alloc, room_for(pieces))?;
     for piece in pieces {
         bytes.extend_from_slice(piece.bytes.as_slice())?;
     }

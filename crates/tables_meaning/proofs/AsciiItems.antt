@@ -12,6 +12,7 @@ use Rattle.records.specs.Values.{DscValue, SidecarValue}
 use Rattle.rules.specs.Suites.{keeps_architecture, keeps_component}
 use Rattle.rules.specs.declared.suite.Suite.{Suite}
 use Rattle.sums.proofs.Members.{all_at, any_some, contains_map, from_map, no_member, which}
+use Rattle.sums.specs.Lines.{greatest_size}
 use Rattle.sums.specs.Lists.{IsFile}
 use Rattle.sums.specs.Prints.{print as print_of}
 use Rattle.sums.specs.declared.entries.ListKind.TheVariants.{Dsc}
@@ -60,7 +61,7 @@ module _ (item : Item) (component : AreAscii item.component) where
 
   source_plain : (d : DscValue) → IsSourceOf item d → IsPlainItem item
   source_plain d is =
-      let read = dsc_of_read item.paragraph d is.paragraph in
+      let read = dsc_of_read _ item.paragraph d is.paragraph in
       let source : AreAscii d.source = package_ascii d.source read.made.is_source in
       let own : AreAscii item.source = subst AreAscii (sym is.source) source in
       record {
@@ -75,7 +76,7 @@ module _ (item : Item) (component : AreAscii item.component) where
               | inl first ↦ subst AreAscii (ap (λ (g : PoolFile). g.path) first) (path_ascii (dsc_file d) own (dsc_file_ascii d source read.made.is_version))
               | inr listed ↦
                   (let from = from_map (listed_file item) f d.entries listed in
-                  let file = all_at (IsFile Dsc) d.entries from.0 read.made.entries.listed.each from.1 in
+                  let file = all_at (IsFile greatest_size Dsc) d.entries from.0 read.made.entries.listed.each from.1 in
                   subst AreAscii (ap (λ (g : PoolFile). g.path) from.2) (path_ascii from.0.name own (file_name_ascii from.0.name file.name)))
             ];
       }

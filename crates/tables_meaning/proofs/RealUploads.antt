@@ -17,6 +17,7 @@ use Rattle.records.specs.declared.fault.RecordFault.{RecordFault}
 use Rattle.sums.proofs.Booleans.{denied}
 use Rattle.sums.proofs.Members.{all_at, all_from, any_some, contains_map, from_map}
 use Rattle.sums.specs.FileNames.{is_file_name, is_changes_name}
+use Rattle.sums.specs.Lines.{greatest_size}
 use Rattle.sums.specs.Lists.{IsFile}
 use Rattle.sums.specs.Prints.{print as print_of}
 use Rattle.sums.specs.declared.entries.Entry.{Entry}
@@ -74,7 +75,7 @@ unfolding candidate_of
 read_candidates [] all = tt
 read_candidates (a ∷ arrivals) all = read_candidate a all.0.0 (is_changes_name a.name) (candidates arrivals) (read_candidates arrivals all.1)
 
-real_file : (e : Entry) → IsFile Changes e → IsRealPrint e.print
+real_file : (e : Entry) → IsFile greatest_size Changes e → IsRealPrint e.print
 real_file e file = record { md5 = file.md5.length; sha1 = file.sha1.length; sha256 = file.sha256.length }
 
 -- ---- uploads without a verdict
@@ -119,7 +120,7 @@ module _ (t : Tables) (judged : List Judgement) (arrivals : AreArrivals t) (uplo
       let from = from_map (wanted (arrivals_in t)) (w.name, w.print, w.here) entries
       (Contains-permutation (sorted_by want_order asked) asked (w.name, w.print, w.here) (IsPermutation-sort_by want_order want_order_total asked)
       (subst (λ ws. Contains ws (w.name, w.print, w.here)) (sym (ap (λ r. r.1) is.request)) listed)) in
-      let file = all_at (IsFile Changes) entries from.0 (changes_of_read is.of.body is.of.changes is.read.changes).made.entries.listed.each from.1 in
+      let file = all_at (IsFile greatest_size Changes) entries from.0 (changes_of_read _ is.of.body is.of.changes is.read.changes).made.entries.listed.each from.1 in
       let name : from.0.name ≡ w.name = ap (λ v. v.0) from.2 in
       let print : from.0.print ≡ w.print = ap (λ v. v.1) from.2 in
       record {

@@ -30,7 +30,7 @@ abbrev IsSignedAs : List ℕ × Print → Type 0
 IsSignedAs s = IsSigned s.0 s.1
 
 signed_record : (a : Arrival) (c : ChangesValue) → is_changes_name a.name ≡ true → IsDeliverable a.name a.body → changes_in a.body ≡ Ok c → IsSigned a.name (print_of a.body)
-signed_record a c named deliverable read = let made = changes_of_read a.body c read in record {
+signed_record a c named deliverable read = let made = changes_of_read _ a.body c read in record {
   named = named;
   file_name = deliverable.file_name;
   small = made.within;

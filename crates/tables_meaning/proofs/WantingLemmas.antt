@@ -158,7 +158,7 @@ all_left t = refl
 
 -- a .changes lists some file
 lists_some : (text : List ℕ) (c : ChangesValue) → changes_in text ≡ Ok c → 0 < length c.entries
-lists_some text c h = (changes_of_read text c h).made.entries.listed.count.0
+lists_some text c h = (changes_of_read _ text c h).made.entries.listed.count.0
 
 all_list_some : (arrivals : List Arrival) → AllByRecursion (λ c. 0 < length c.changes.entries) (candidates arrivals)
 unfolding candidate_of

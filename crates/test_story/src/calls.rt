@@ -3,11 +3,11 @@
 
 use crate::configurations::{NotConfigured, configured, told};
 use crate::drives::{add_commands, command_of, outcome_text, outcomes_text};
-use crate::outcomes::printed;
+use crate::outcomes::{piece_text, printed};
 use crate::readers::Pieces;
-use crate::steps::owned;
+use crate::steps::{owned, place_of};
 use desk::{DeskFault, Served, answer};
-use keep::Keeper;
+use keep::{FilePiece, Keeper};
 use queue::{Archive, Command, Fault, Outcome};
 use std::alloc::{AllocError, Global};
 use test_rows::{Unread, number_of, text_of};
@@ -31,6 +31,8 @@ pub enum Call {
     Request(u64, Vec<u8>),
     /// The text of a configuration that the archive is given, and the moment.
     Configure(u64, Vec<u8>),
+    /// The path of a file of the pool, and the place of one of its pieces.
+    Piece(String, u32),
 }
 
 /// The answer to a call.
@@ -41,6 +43,7 @@ pub enum Answered {
     /// How the request was served, and what was written.
     Reply(Result<Served, DeskFault>, Vec<u8>),
     Configured(Result<(), NotConfigured>),
+    Piece(Result<Option<FilePiece>, Fault>),
 }
 
 /// Makes a single command.
@@ -140,6 +143,14 @@ fn receipt_of(alloc: Global, words: &[Vec<u8>]) -> Result<Call, Unread> {
     }
 }
 
+/// A piece of a file of the pool: its words are a path and a place.
+fn asked_piece(alloc: Global, words: &[Vec<u8>]) -> Result<Call, Unread> {
+    match words {
+        [path, number] => Ok(Call::Piece(owned(alloc, path)?, place_of(number)?)),
+        _ => Err(Unread::BadWords),
+    }
+}
+
 /// The commands of a list.
 fn list_of(alloc: Global, words: &[Vec<u8>]) -> Result<Call, Unread> {
     let mut commands = Vec::new(alloc);
@@ -148,8 +159,8 @@ fn list_of(alloc: Global, words: &[Vec<u8>]) -> Result<Call, Unread> {
 }
 
 impl Call {
-    /// The call of a row: `request MOMENT BYTES`, `receive NAME BODY`, `configure MOMENT CONFIG`, `drive COMMAND ; COMMAND ..`, or a
-    /// command as such a list has it.
+    /// The call of a row: `request MOMENT BYTES`, `receive NAME BODY`, `configure MOMENT CONFIG`, `piece PATH NUMBER`,
+    /// `drive COMMAND ; COMMAND ..`, or a command as such a list has it.
     pub fn read(alloc: Global, words: &[Vec<u8>]) -> Result<Call, Unread> {
         let Some((verb, rest)) = words.split_first() else {
             return Err(Unread::BadWords);
@@ -158,6 +169,7 @@ impl Call {
             "request" => request_of(alloc, rest),
             "receive" => receipt_of(alloc, rest),
             "configure" => configuration_of(alloc, rest),
+            "piece" => asked_piece(alloc, rest),
             "drive" => list_of(alloc, rest),
             _ => Ok(Call::One(command_of(alloc, words)?)),
         }
@@ -177,6 +189,9 @@ impl Call {
             Call::Request(moment, bytes) => replied(alloc, archive, *moment, bytes, room),
             Call::Configure(moment, text) => {
                 Answered::Configured(configured(alloc, archive, text, *moment))
+            }
+            Call::Piece(path, number) => {
+                Answered::Piece(archive.fetch_piece(alloc, path, *number))
             }
         }
     }
@@ -217,6 +232,7 @@ impl Answered {
             Answered::List(Err(_)) => true,
             Answered::Reply(_, written) => written.as_slice().starts_with(NO_MEMORY),
             Answered::Configured(done) => matches!(done, Err(NotConfigured::OutOfMemory)),
+            Answered::Piece(done) => matches!(done, Err(Fault::OutOfMemory)),
         }
     }
 
@@ -228,6 +244,7 @@ impl Answered {
             Answered::Reply(Ok(_), written) => Ok(written),
             Answered::Reply(Err(fault), _) => printed(alloc, &fault),
             Answered::Configured(done) => told(alloc, done),
+            Answered::Piece(done) => piece_text(alloc, done),
         }
     }
 }

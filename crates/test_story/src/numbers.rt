@@ -31,7 +31,11 @@ const OF_ARCHIVES: [Fault; 12] = [
     Fault::NothingToRemove,
 ];
 
-const OF_DESKS: [DeskFault; 2] = [DeskFault::ReaderFailed, DeskFault::WriterFailed];
+const OF_DESKS: [DeskFault; 3] = [
+    DeskFault::ReaderFailed,
+    DeskFault::WriterFailed,
+    DeskFault::ArchiveFailed,
+];
 
 /// Adds a line on a fault.
 fn add_fault<F: Display>(text: &mut String, number: u8, fault: &F) -> Result<(), AllocError> {

@@ -1,5 +1,6 @@
 //! The answers to calls of an archive, as texts.
 
+use keep::FilePiece;
 use queue::{Arrived, Fault, Promotion, Report, SourceCopy};
 use std::alloc::Global;
 use std::fmt::Display;
@@ -78,6 +79,23 @@ fn copy_lines(alloc: Global, promotion: &Promotion) -> Result<Vec<u8>, Unread> {
 pub fn promotion_text(alloc: Global, done: Result<Promotion, Fault>) -> Result<Vec<u8>, Unread> {
     match done {
         Ok(promotion) => copy_lines(alloc, &promotion),
+        Err(fault) => refused_text(alloc, fault),
+    }
+}
+
+/// How many bytes the file has, and after a blank those of its piece; `nothing`, or the fault.
+pub fn piece_text(
+    alloc: Global,
+    done: Result<Option<FilePiece>, Fault>,
+) -> Result<Vec<u8>, Unread> {
+    match done {
+        Ok(Some(piece)) => {
+            let size = piece.size;
+            let mut text = format!(in alloc; "{size} ")?.into_bytes();
+            text.extend_from_slice(piece.bytes.as_slice())?;
+            Ok(text)
+        }
+        Ok(None) => said(alloc, "nothing"),
         Err(fault) => refused_text(alloc, fault),
     }
 }

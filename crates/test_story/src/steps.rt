@@ -2,12 +2,15 @@
 
 use crate::delivery::delivery_of;
 use crate::outcomes::{
-    arrived_text, found_text, number_text, promotion_text, refused_text, report_text,
+    arrived_text, found_text, number_text, piece_text, promotion_text, refused_text, report_text,
 };
 use keep::Keeper;
 use queue::Archive;
 use std::alloc::Global;
 use test_rows::{Unread, number_of, said, text_of};
+
+/// The greatest number of a piece that can be asked for.
+const LAST_PIECE: u64 = 4_294_967_295;
 
 /// `deliver NAME [MOMENT] BODY [OLD NEW]..`: `new`, `again`, or the fault.
 pub fn deliver<K: Keeper>(
@@ -77,6 +80,25 @@ pub fn show<K: Keeper>(
     words: &[Vec<u8>],
 ) -> Result<Vec<u8>, Unread> {
     found_text(alloc, archive.fetch(alloc, path_of(words)?))
+}
+
+/// The place of a piece.
+pub fn place_of(word: &Vec<u8>) -> Result<u32, Unread> {
+    Ok(number_of(word)?.min(LAST_PIECE) as u32)
+}
+
+/// `piece PATH NUMBER`: how many bytes the file of the pool at the path has, and after a blank those of its piece at a place, from 0; or
+/// `nothing`.
+pub fn piece<K: Keeper>(
+    alloc: Global,
+    archive: &mut Archive<K>,
+    words: &[Vec<u8>],
+) -> Result<Vec<u8>, Unread> {
+    let [path, number] = words else {
+        return Err(Unread::BadWords);
+    };
+    let (path, number) = (text_of(path)?, place_of(number)?);
+    piece_text(alloc, archive.fetch_piece(alloc, path, number))
 }
 
 /// `has PATH`: whether anything is at the path.

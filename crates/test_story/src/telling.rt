@@ -11,7 +11,7 @@ use crate::reading::{status, wanted};
 use crate::receptions::{receive, receive_fails, receive_fails_each};
 use crate::requests::{left, request};
 use crate::steps::{
-    clean, copy, deliver, has, moment_of, promote, remove, run, show, verdicts, waiting,
+    clean, copy, deliver, has, moment_of, piece, promote, remove, run, show, verdicts, waiting,
 };
 use keep::{KeepFault, Keeper, LATEST};
 use queue::Archive;
@@ -55,6 +55,7 @@ fn asked_of_uploads<K: Keeper>(
 ) -> Result<Vec<u8>, Unread> {
     match verb {
         "list" => list(alloc, archive, words),
+        "piece" => piece(alloc, archive, words),
         "lacks" => lacks(alloc, archive, words),
         "reason" => reason(alloc, archive, words),
         _ => asked_by_reader(alloc, archive, verb, words),
@@ -62,7 +63,7 @@ fn asked_of_uploads<K: Keeper>(
 }
 
 /// What an archive answers to a question: `deliver`, `run`, `waiting`, `verdicts`, `show`, `has`, `copy`, `promote`, `remove`,
-/// `clean`, `configure`, `configuration`, `drive`, `list`, `lacks`, `reason` and those on requests and readers.
+/// `clean`, `configure`, `configuration`, `drive`, `list`, `piece`, `lacks`, `reason` and those on requests and readers.
 pub fn asked<K: Keeper>(
     alloc: Global,
     archive: &mut Archive<K>,

@@ -9,14 +9,14 @@ use Rattle.para.specs.Fault.{one_fault, many_fault}
 use Rattle.para.specs.Fields.{fields_in}
 use Rattle.records.specs.FieldNames.{name_of}
 use Rattle.records.specs.Names.{is_package_name, is_architecture_name, is_plain_name}
-use Rattle.records.specs.Records.{changes_in, sidecar_in, value, words, is_present, is_missing, has_more_lines, is_parenthesized, are_architectures, is_binary_architecture, person_of, sidecar_source, missing, not_simple, unknown_format, bad_source, bad_name, bad_version, bad_architectures, bad_architecture, bad_distribution, bad_lists, entries_of, has_own_field}
+use Rattle.records.specs.Records.{changes_in, changes_within, sidecar_in, value, words, is_present, is_missing, has_more_lines, is_parenthesized, are_architectures, is_binary_architecture, person_of, sidecar_source, missing, not_simple, unknown_format, bad_source, bad_name, bad_version, bad_architectures, bad_architecture, bad_distribution, bad_lists, entries_of, has_own_field}
 use Rattle.records.specs.Values.{ChangesValue}
 use Rattle.rules.specs.declared.suite.Suite.{Suite}
 use Rattle.suites.specs.Pool.{pool_path, directory_of, prefix_of, front_of}
 use Rattle.suites.specs.Items.{item_of}
 use Rattle.suites.specs.Upload.{items_of, parts_with, has_suffix, entry_named, package_file}
 use Rattle.suites.specs.declared.item.Item.{Item}
-use Rattle.sums.specs.Lists.{unhexed, lists_in}
+use Rattle.sums.specs.Lists.{unhexed, lists_within}
 use Rattle.texts.specs.Calendar.{date_text, day_text, time_text, year_of, month_of, day_of, year_and_day, month_and_day, weekday_name, month_name}
 use Rattle.texts.specs.Stanzas.{fields_of_text, file_fields, package_fields, package_stanza}
 use Rattle.texts.specs.Release.{release_text, suite_fields, valid_until, index_lists, index_list, optional_field, architectures_text, index_path}
@@ -122,7 +122,7 @@ items_from (Err e) = []
 
 -- the stanza of the package is that of Packages
 pub the_packages : flat_map package_stanza (items_from (changes_in changes_text)) ≡ packages
-unfolding packages changes_text sidecar_text is_utf8 chars encode package_file fields_in one_fault many_fault changes_in sidecar_in value words is_present is_missing has_more_lines is_parenthesized are_architectures is_binary_architecture person_of sidecar_source missing not_simple unknown_format bad_source bad_name bad_version bad_architectures bad_architecture bad_distribution bad_lists entries_of has_own_field name_of is_package_name is_architecture_name is_plain_name lists_in items_of parts_with has_suffix entry_named pool_path directory_of prefix_of front_of fields_of_text file_fields package_fields package_stanza encode_with digits
+unfolding packages changes_text sidecar_text is_utf8 chars encode package_file fields_in one_fault many_fault changes_within sidecar_in value words is_present is_missing has_more_lines is_parenthesized are_architectures is_binary_architecture person_of sidecar_source missing not_simple unknown_format bad_source bad_name bad_version bad_architectures bad_architecture bad_distribution bad_lists entries_of has_own_field name_of is_package_name is_architecture_name is_plain_name lists_within items_of parts_with has_suffix entry_named pool_path directory_of prefix_of front_of fields_of_text file_fields package_fields package_stanza encode_with digits
 the_packages = refl
 
 pub index_with : List ℕ → ℕ → List ℕ → List ℕ → List ℕ → Index

@@ -18,7 +18,8 @@ pub use leaving::leave_suites;
 pub use looking::look;
 pub use mending::mend_file;
 pub use placing::{
-    leave, place, remove_cut, remove_left, remove_old_states, save, show_state, write_page,
+    end_place, leave, open_place, remove_cut, remove_left, remove_old_states, save, show_state,
+    vouch, write_page,
 };
 pub use planning::{Counts, counts_of, manifest_of, steps_of};
 pub use site::{Site, kept_of, opened_folders};

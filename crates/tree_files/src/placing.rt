@@ -6,40 +6,48 @@ use crate::site::Site;
 use crate::states::Wanted;
 use crate::writing::touch_release;
 use exported::{Manifest, Word, folder_of, is_state_of, new_name};
-use folders::{Disk, FolderFault};
+use folders::{Disk, Folder, FolderFault};
 use std::alloc::{AllocError, Global};
+use std::rt::Files;
 use suites::{PoolFile, Shelves};
 
-/// Puts a file of the pool at its path. If it is synced, the answer is what the manifest may say of it then.
-fn put_file<R: Disk>(
+/// Opens the folder that a file of the pool is to lie in. It and those on the way to it are made, if they are not there.
+///
+/// Refused as `Place` if what has the path of the file is the database's, or if the disk fails, and for want of memory.
+pub fn open_place<R: Disk>(
     rt: &R,
     site: &Site<R>,
     file: &PoolFile,
-    body: &[u8],
-    is_synced: bool,
-) -> Result<Option<Word>, FolderFault> {
+) -> Result<Folder<R>, FolderFault> {
     let (way, name) = cut(file.path.as_str());
     let folder = site.root.way_made(rt, way)?;
-    site.put(rt, &folder, name, body, is_synced)?;
-    if !is_synced {
-        return Ok(None);
-    }
-    match folder.seen(rt, name)? {
-        Some(seen) => Ok(Some(here(file.print, stamp_of(&seen)))),
-        None => Ok(None),
-    }
+    site.kept.spare(rt, &folder, name)?;
+    Ok(folder)
 }
 
-/// Puts a file of the pool at its path. If it is synced, the manifest vouches for it then.
-pub fn place<R: Disk>(
+/// Puts a file of the pool, which was written beside, at its path in the folder that it is to lie in.
+pub fn end_place<R: Disk>(
     rt: &R,
     site: &Site<R>,
+    folder: &Folder<R>,
     file: &PoolFile,
-    body: &[u8],
+    new: R::File,
     is_synced: bool,
+) -> Result<(), FolderFault> {
+    let (_, name) = cut(file.path.as_str());
+    site.end(rt, new, folder, name, is_synced)
+}
+
+/// Has the manifest vouch for a file of the pool, which was synced and lies in a folder.
+pub fn vouch<R: Disk>(
+    rt: &R,
+    folder: &Folder<R>,
+    file: &PoolFile,
     manifest: &mut Manifest,
 ) -> Result<(), FolderFault> {
-    if let Some(word) = put_file(rt, site, file, body, is_synced)? {
+    let (_, name) = cut(file.path.as_str());
+    if let Some(seen) = folder.seen(rt, name)? {
+        let word = here(file.print, stamp_of(&seen));
         manifest.set(rt.alloc(), file.path.as_str(), word)?;
     }
     Ok(())

@@ -1,7 +1,13 @@
 //! The folders that an export works in, and how a file gets its place.
 
+ghost use Rattle.std.specs.Prelude.{OnOk};
+ghost use Rattle.std.specs.Io.KnownBytes.{Appends};
+
 use exported::OWN;
 use folders::{Disk, Folder, FolderFault, Kept};
+use std::alloc::Global;
+use std::io::Write;
+use std::rt::Files;
 
 /// The name that a file has in the folder of exports until it has its place.
 const NEW: &str = "new";
@@ -39,6 +45,49 @@ pub fn kept_of<R: Disk>(rt: &R, database: &str) -> Result<Kept, FolderFault> {
 }
 
 impl<R: Disk> Site<R> {
+    /// Begins a file among those of exports, open to be written on.
+    ///
+    /// Refused as `Place` if the disk fails, and for want of memory.
+    pub fn begin(&self, rt: &R) -> Result<R::File, FolderFault> {
+        self.own.begin_new(rt, &self.kept, NEW)
+    }
+
+    /// Writes the next bytes on the file that was begun.
+    ///
+    /// Refused as `Place` if the disk fails, and for want of memory.
+    pub fn write_on<W: Write>(
+        &self,
+        alloc: Global,
+        file: &mut W,
+        bytes: &[u8],
+    ) -> Result<(), FolderFault>
+        // All of these bytes come after those that were written before, and nothing else does.
+        ensures written { OnOk result (Appends (W.contents file.old) (W.contents file.new) bytes.now) }
+    {
+        self.own.write_on(alloc, NEW, file, bytes)
+    }
+
+    /// Has the file that was written on the disk, if that is asked, and renames it to a name in a folder.
+    ///
+    /// Refused as `Place` if what has the name is the database's or a folder, or if the disk fails, and for want of memory.
+    pub fn end(
+        &self,
+        rt: &R,
+        file: R::File,
+        folder: &Folder<R>,
+        name: &str,
+        is_synced: bool,
+    ) -> Result<(), FolderFault> {
+        self.own.end_new(rt.alloc(), NEW, file, is_synced)?;
+        self.own.move_to(rt, &self.kept, NEW, folder, name)
+    }
+
+    /// Removes the file that was begun and does not get its place. It takes room on a full disk. If it stays, the next file is written in
+    /// its place.
+    pub fn give_up(&self, rt: &R) {
+        let _ = self.own.remove(rt, &self.kept, NEW);
+    }
+
     /// Writes a file among those of exports, and renames it to a name in a folder.
     fn write_and_move(
         &self,
@@ -48,8 +97,9 @@ impl<R: Disk> Site<R> {
         body: &[u8],
         is_synced: bool,
     ) -> Result<(), FolderFault> {
-        self.own.write_new(rt, &self.kept, NEW, body, is_synced)?;
-        self.own.move_to(rt, &self.kept, NEW, folder, name)
+        let mut file = self.begin(rt)?;
+        self.write_on(rt.alloc(), &mut file, body)?;
+        self.end(rt, file, folder, name, is_synced)
     }
 
     /// Puts a file at a name in a folder: it is written beside, and renamed there. If that fails, what was written beside is removed.
@@ -66,8 +116,7 @@ impl<R: Disk> Site<R> {
         self.kept.spare(rt, folder, name)?;
         let done = self.write_and_move(rt, folder, name, body, is_synced);
         if done.is_err() {
-            // It takes room on a full disk. If it stays, the next file is written in its place.
-            let _ = self.own.remove(rt, &self.kept, NEW);
+            self.give_up(rt);
         }
         done
     }

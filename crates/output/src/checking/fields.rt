@@ -14,7 +14,7 @@ use std::alloc::{AllocError, Global};
 use strsim::levenshtein;
 
 /// The names of the fields of a configuration.
-const NAMES: [&str; 11] = [
+const NAMES: [&str; 12] = [
     "Codename",
     "Suite",
     "Origin",
@@ -26,6 +26,7 @@ const NAMES: [&str; 11] = [
     "Uploaders",
     "KeepDays",
     "ValidDays",
+    "MaxFileSize",
 ];
 
 /// How many edits a name may be away from the one that is likely meant.
@@ -54,6 +55,7 @@ fn is_known(name: &str) -> bool
     let uploaders = is_same(name, "Uploaders");
     let keep = is_same(name, "KeepDays");
     let valid = is_same(name, "ValidDays");
+    let size = is_same(name, "MaxFileSize");
     codename
         || suite
         || origin
@@ -65,6 +67,7 @@ fn is_known(name: &str) -> bool
         || uploaders
         || keep
         || valid
+        || size
 }
 
 /// Adds the number of a paragraph and the name of a field, if that is unknown.

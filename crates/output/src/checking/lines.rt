@@ -1,12 +1,15 @@
 //! What a configuration says, suite by suite, and which of its fields are passed over.
 
 use crate::checking::fields::likely_name;
-use para::Text;
-use rules::{Config, Days, Rule, SourcePattern, Suite};
+use para::{Paragraph, Text, read_many};
+use rules::{Config, Days, MOST_CONFIG, Rule, SourcePattern, Suite};
 use std::alloc::{AllocError, Global};
 
 /// How many seconds a day has.
 const DAY: u64 = 86_400;
+
+/// How many bytes a MiB has.
+const MEBIBYTE: u64 = 1_048_576;
 
 /// The files that an export writes into the folder of a suite. A component has a folder there, which cannot have one of these names.
 const FILES_OF_TREE: [&str; 4] = ["Release", "Release.gpg", "InRelease", "index.html"];
@@ -86,6 +89,32 @@ fn days_line(alloc: Global, begin: &str, days: Option<Days>) -> Result<String, A
         }
         None => format!(in alloc; "{begin} for good"),
     }
+}
+
+/// Whether the first of these paragraphs says how large a file may be.
+fn have_size(paragraphs: &[Paragraph<'_>]) -> bool {
+    match paragraphs.first() {
+        Some(paragraph) => paragraph.get("MaxFileSize").is_some(),
+        None => false,
+    }
+}
+
+/// Whether a configuration says how large a file may be.
+fn says_size(alloc: Global, config: &Config) -> Result<bool, AllocError> {
+    match read_many(alloc, config.text(), MOST_CONFIG) {
+        Ok(paragraphs) => Ok(have_size(&paragraphs)),
+        // The text is that of a configuration, so only want of memory is left.
+        Err(_) => Err(AllocError),
+    }
+}
+
+/// Adds `files up to N MiB`, if a configuration says how large a file may be.
+fn push_size(alloc: Global, lines: &mut Vec<String>, config: &Config) -> Result<(), AllocError> {
+    if says_size(alloc, config)? {
+        let count = config.largest_file() / MEBIBYTE;
+        lines.push(format!(in alloc; "files up to {count} MiB")?)?;
+    }
+    Ok(())
 }
 
 /// Adds the lines on a suite.
@@ -181,9 +210,10 @@ fn passed_line(alloc: Global, name: &str, codename: &str) -> Result<String, Allo
 /// ```
 ///
 /// with a line for each rule on uploads, ` uploads * by anybody` if there is no such field, ` uploads nothing` if the field has no line,
-/// and `for N days` if a Release is valid for that time. Then `files count for good`, or `for N days`; for each component that has the name
-/// of a file of the tree, `component NAME of CODENAME is named as a file of the tree: no export has it`; and for each field that is passed
-/// over, given with the position of its suite, `passed over NAME in CODENAME`, followed by `, did you mean KNOWN` if a known name is near.
+/// and `for N days` if a Release is valid for that time. Then `files count for good`, or `for N days`; `files up to N MiB` if the first
+/// paragraph has a MaxFileSize; for each component that has the name of a file of the tree, `component NAME of CODENAME is named as a file
+/// of the tree: no export has it`; and for each field that is passed over, given with the position of its suite, `passed over NAME in
+/// CODENAME`, followed by `, did you mean KNOWN` if a known name is near.
 pub fn check_lines(
     alloc: Global,
     config: &Config,
@@ -194,6 +224,7 @@ pub fn check_lines(
         push_suite(alloc, &mut lines, suite)?;
     }
     lines.push(days_line(alloc, "files count", config.keep_days())?)?;
+    push_size(alloc, &mut lines, config)?;
     for suite in config.suites() {
         push_unwritable(alloc, &mut lines, suite)?;
     }

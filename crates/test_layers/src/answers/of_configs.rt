@@ -15,6 +15,16 @@ fn config(out: &mut Out, words: &[Vec<u8>]) {
     }
 }
 
+/// `new-config TEXT [OLD NEW]..`: `read`, or the fault, of a text that is to be a new configuration.
+fn new_config(out: &mut Out, words: &[Vec<u8>]) {
+    let text = out.edited(words);
+    match Config::read_strict(out.alloc, &text) {
+        Ok(config) if config.text() == text.as_slice() => out.say("read"),
+        Ok(_) => out.say("another text is kept"),
+        Err(fault) => out.show(&fault),
+    }
+}
+
 /// The configuration of a text.
 pub fn config_of(out: &mut Out, text: &[u8]) -> Option<Config> {
     match Config::read(out.alloc, text) {
@@ -42,16 +52,17 @@ fn seconds_of(days: Option<Days>) -> Option<u64> {
     }
 }
 
-/// Adds the answer to a question on a configuration: `suites`, how many suites it has; `keep-seconds`, for how long what arrives
-/// counts, or `none`.
+/// Adds the answer to a question on a configuration: `suites`, how many suites it has; `largest-file`, how many bytes a file may have;
+/// `keep-seconds`, for how long what arrives counts, or `none`.
 fn add_of_config(out: &mut Out, config: &Config, verb: &str) {
     match verb {
         "suites" => out.show(config.suites().len()),
+        "largest-file" => out.show(config.largest_file()),
         _ => add_number(out, seconds_of(config.keep_days())),
     }
 }
 
-/// `suites TEXT`, `keep-seconds TEXT`.
+/// `suites TEXT`, `largest-file TEXT`, `keep-seconds TEXT`.
 fn of_config(out: &mut Out, verb: &str, words: &[Vec<u8>]) {
     let text = out.only(words);
     if let Some(config) = config_of(out, text) {
@@ -158,7 +169,8 @@ fn judged(out: &mut Out, words: &[Vec<u8>]) {
 pub fn answer(out: &mut Out, verb: &str, words: &[Vec<u8>]) -> bool {
     match verb {
         "config" => config(out, words),
-        "suites" | "keep-seconds" => of_config(out, verb, words),
+        "new-config" => new_config(out, words),
+        "suites" | "largest-file" | "keep-seconds" => of_config(out, verb, words),
         "valid-seconds" => valid_seconds(out, words),
         "suite-for" => suite_for(out, words),
         "suite" => suite(out, words),

@@ -58,6 +58,30 @@ fn dsc(out: &mut Out, words: &[Vec<u8>], tells: bool) {
     }
 }
 
+/// `changes-within MOST TEXT [OLD NEW]..`: `read`, or the fault, if a listed file may have at most MOST bytes.
+fn changes_within(out: &mut Out, words: &[Vec<u8>]) {
+    let Some((most, words)) = words.split_first() else {
+        return out.refuse(Unread::BadWords);
+    };
+    let (most, text) = (out.number_of(most), out.edited(words));
+    let read = Changes::read_within(out.alloc, &text, most);
+    if let Some(changes) = out.read(read, false) {
+        add_changes(out, &changes);
+    }
+}
+
+/// `dsc-within MOST TEXT [OLD NEW]..`: `read`, or the fault, if a listed file may have at most MOST bytes.
+fn dsc_within(out: &mut Out, words: &[Vec<u8>]) {
+    let Some((most, words)) = words.split_first() else {
+        return out.refuse(Unread::BadWords);
+    };
+    let (most, text) = (out.number_of(most), out.edited(words));
+    let read = Dsc::read_within(out.alloc, &text, most);
+    if let Some(dsc) = out.read(read, false) {
+        add_dsc(out, &dsc);
+    }
+}
+
 /// `sidecar TEXT [OLD NEW]..`: `read`, or the fault; with `told-` before the word, what is read.
 fn sidecar(out: &mut Out, words: &[Vec<u8>], tells: bool) {
     let text = out.edited(words);
@@ -87,6 +111,8 @@ pub fn answer(out: &mut Out, verb: &str, words: &[Vec<u8>]) -> bool {
         "told-changes" => changes(out, words, true),
         "dsc" => dsc(out, words, false),
         "told-dsc" => dsc(out, words, true),
+        "changes-within" => changes_within(out, words),
+        "dsc-within" => dsc_within(out, words),
         "sidecar" => sidecar(out, words, false),
         "told-sidecar" => sidecar(out, words, true),
         "name" => name(out, words),

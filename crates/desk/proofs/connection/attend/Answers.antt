@@ -1,10 +1,15 @@
-use Rattle.std.proofs.Common.{◌≡◌, ◌<◌, ◌+◌, List, [], ◌∷◌, ◌++◌, drop, take, get_or, length, sym, ap, ap₂, subst, ◌∙◌, arith, length-set, set}
+use Rattle.std.proofs.Common.{◌≡◌, ◌<◌, ◌+◌, List, [], ◌∷◌, ◌++◌, drop, take, get_or, length, sym, ap, ap₂, subst, refl, ◌∙◌, arith, length-set, set}
 use Rattle.std.proofs.lemmas.List.{drop_more, drop-set-lt, take_more, take_more_set, length-take-le}
 use Rattle.std.proofs.lemmas.Grind.{drop_more_same}
-use Rattle.keep.proofs.ReadLemmas.{lasts_more}
+use Rattle.keep.proofs.ReadLemmas.{lasts_itself, lasts_more, reads_none}
 use Rattle.desk.specs.Connections.{AreServed, Visit, visit, visits}
-use Rattle.desk.proofs.ConnectionLemmas.{served_joined, served_one, visits-snoc}
+use Rattle.desk.proofs.ConnectionLemmas.{served_joined, served_none, served_one, visits-snoc}
 use Rattle.desk.proofs.connection.attend.Goals as goal
+
+pub loop-connection-init : goal.loop-connection-init
+loop-connection-init g c =
+    let keeper = c.args.archive.now.keeper in
+    record { to_come = refl; size = refl; lasts = lasts_itself keeper; served = served_none g.K.Keeper keeper keeper (reads_none keeper) }
 
 pub loop-connection-preserved : goal.loop-connection-preserved
 loop-connection-preserved g c =
@@ -32,5 +37,5 @@ loop-connection-preserved g c =
       lasts = lasts_more sofar.lasts c.serve.ensures.lasts;
       served = subst (λ (vs : List Visit). AreServed g.K.Keeper c.args.archive.now.keeper c.serve.new.archive.keeper vs) (sym grown)
           (served_joined g.K.Keeper _ c.loop-connection.archive.keeper _ _ _ c.serve.ensures.lasts.clean sofar.served
-          (served_one g.K.Keeper c.loop-connection.archive.keeper c.serve.new.archive.keeper (visit g.R.Read.remaining g.W.Write.contents old new) c.serve.ensures.served));
+          (served_one g.K.Keeper c.loop-connection.archive.keeper c.serve.new.archive.keeper (visit g.R.Read.remaining g.W.Write.contents old new) c.serve.ensures.lasts c.serve.ensures.served));
     }

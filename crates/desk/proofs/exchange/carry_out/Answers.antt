@@ -1,18 +1,21 @@
-use Rattle.std.proofs.Common.{◌≤◌, ℕ, List, [], Err, subst, refl, false}
-use Rattle.desk.specs.Request.{body_length, want_of}
-use Rattle.desk.specs.Want.{cleaning, copying, delivery, fetching, promoting, queue_run, removing, verdict_list, waiting_list}
+use Rattle.std.proofs.Common.{◌≡◌, ℕ, List, [], Err, subst, refl, true, false}
+use Rattle.desk.specs.Request.{want_of}
+use Rattle.desk.specs.Want.{cleaning, copying, delivery, fetching, may_ask, promoting, queue_run, removing, verdict_list, waiting_list}
 use Rattle.desk.specs.declared.head.Wanted.{Wanted}
 use Rattle.queue.specs.Commands.{counted, found, promoted, reported}
 use Rattle.queue.specs.Receiving.{IsReceived, LeavesReceived}
+use Rattle.history.specs.Deliveries.{most_named}
 use Rattle.history.proofs.Runs.{leaves_read, leaves_step}
-use Rattle.desk.proofs.ExchangeLemmas.{received_done, received_not, reply_missing, reply_told, without_body}
+use Rattle.desk.proofs.ExchangeLemmas.{received_done, received_not, reply_missing, reply_told, within_limit, without_body}
 use Rattle.desk.proofs.exchange.carry_out.Goals as goal
-use Rattle.sums.specs.Lines.{most_size}
 
 pub returns-in-Ok-clause-carried_out : goal.returns-in-Ok-clause-carried_out
 returns-in-Ok-clause-carried_out g c =
     let received = rw c.as_str.ensures.value at c.in-Ok.ensures.received in
-    rw c.in-Deliver.is (received_done g.K.Keeper _ _ _ _ _ c.in-Deliver.length c.args.moment c.in-Ok.arrived _ g.met.K.Keeper.settled c.in-Ok.ensures.served received (c.arrived_reply.ensures false))
+    let large = rw c.as_str.ensures.value at c.in-Ok.ensures.large in
+    let within = within_limit (most_named (g.K.Keeper.book c.args.archive.now.keeper).config _) c.in-Deliver.length (λ above. (large above).1) in
+    rw c.in-Deliver.is (received_done g.K.Keeper _ _ _ _ _ c.in-Deliver.length c.args.moment c.in-Ok.arrived _ g.met.K.Keeper.settled c.in-Ok.ensures.served received within
+    (c.arrived_reply.ensures false))
 
 pub returns-in-Err-clause-carried_out : goal.returns-in-Err-clause-carried_out
 returns-in-Err-clause-carried_out g c =
@@ -20,9 +23,9 @@ returns-in-Err-clause-carried_out g c =
     c.args.archive.now.keeper c.receive.new.self.keeper (Err c.in-Err.fault)) c.as_str.ensures.value c.in-Err.ensures.received in
     let left = subst (λ (name : List ℕ). LeavesReceived g.K.Keeper (g.R.Read.remaining c.args.reader.now) (g.R.Read.remaining c.receive.new.reader) name c.in-Deliver.length c.args.moment
     c.args.archive.now.keeper c.receive.new.self.keeper) c.as_str.ensures.value c.in-Err.ensures.crash in
-    let small : c.in-Deliver.length ≤ most_size = subst (λ (w : Wanted). body_length (want_of w) ≤ most_size) c.in-Deliver.is c.requires in
+    let asked = subst (λ (w : Wanted). may_ask (want_of w) ≡ true) c.in-Deliver.is c.requires in
     rw c.in-Deliver.is (reply_told g.K.Keeper _ _ _ _ (delivery _ c.in-Deliver.length) c.args.moment c.reception_reply.result _ c.reception_reply.ensures
-    (received_not g.K.Keeper _ _ _ _ _ c.in-Deliver.length c.args.moment c.in-Err.fault left small received))
+    (received_not g.K.Keeper _ _ _ _ _ c.in-Deliver.length c.args.moment c.in-Err.fault left asked received))
 
 pub returns-in-Err-clause-err : goal.returns-in-Err-clause-err
 returns-in-Err-clause-err g c =
@@ -30,9 +33,9 @@ returns-in-Err-clause-err g c =
     c.args.archive.now.keeper c.receive.new.self.keeper (Err c.in-Err.fault)) c.as_str.ensures.value c.in-Err.ensures.received in
     let left = subst (λ (name : List ℕ). LeavesReceived g.K.Keeper (g.R.Read.remaining c.args.reader.now) (g.R.Read.remaining c.receive.new.reader) name c.in-Deliver.length c.args.moment
     c.args.archive.now.keeper c.receive.new.self.keeper) c.as_str.ensures.value c.in-Err.ensures.crash in
-    let small : c.in-Deliver.length ≤ most_size = subst (λ (w : Wanted). body_length (want_of w) ≤ most_size) c.in-Deliver.is c.requires in
+    let asked = subst (λ (w : Wanted). may_ask (want_of w) ≡ true) c.in-Deliver.is c.requires in
     rw c.in-Deliver.is (reply_missing g.K.Keeper _ _ _ _ (delivery _ c.in-Deliver.length) c.args.moment c.reception_reply.result _ c.reception_reply.ensures
-    (received_not g.K.Keeper _ _ _ _ _ c.in-Deliver.length c.args.moment c.in-Err.fault left small received))
+    (received_not g.K.Keeper _ _ _ _ _ c.in-Deliver.length c.args.moment c.in-Err.fault left asked received))
 
 pub returns-in-Run-clause-carried_out : goal.returns-in-Run-clause-carried_out
 returns-in-Run-clause-carried_out g c =

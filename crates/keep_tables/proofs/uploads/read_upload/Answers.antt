@@ -13,7 +13,7 @@ use Rattle.keep_tables.proofs.uploads.read_upload.Goals as goal
 
 pub new-requires : goal.new-requires
 new-requires g c =
-    let read = changes_of_read c.deref.result.now c.in_ok-changes.changes c.in_ok-changes.ensures in
+    let read = changes_of_read _ c.deref.result.now c.in_ok-changes.changes c.in_ok-changes.ensures in
     record {
       names = read.made.entries.listed.names;
       count = c.in_ok-texts.ensures.count ∙ ap length c.entries.ensures;

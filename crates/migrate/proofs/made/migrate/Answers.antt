@@ -1,4 +1,4 @@
-use Rattle.std.proofs.Common.{rules, ◌≡◌, ◌≤◌, IsTrue, All, sym, subst, ◌∙◌}
+use Rattle.std.proofs.Common.{rules, ◌≡◌, ◌≤◌, IsTrue, All, inl, inr, sym, subst, ◌∙◌}
 use Rattle.sqlite.specs.Held.{state}
 use Rattle.sqlite.specs.State.{HasCleanDisk}
 use Rattle.keep.specs.Configured.{AreAlike}
@@ -7,6 +7,14 @@ use Rattle.migrate.specs.Migrated.{old_config}
 use Rattle.migrate.proofs.MadeLemmas.{made_archive, made_book, made_whole}
 use Rattle.migrate.proofs.OverLemmas.{book_over}
 use Rattle.migrate.proofs.made.migrate.Goals as goal
+use Rattle.migrate.proofs.made.migrate.Goals.{then-not-free-via-then-not-free, then-not-free-via-else-not-free+then-not-empty}
+
+pub returns-then-not-free-clause-free : goal.returns-then-not-free-clause-free
+returns-then-not-free-clause-free g c same =
+    elim c.then-not-free.branch [
+      | then-not-free-via-then-not-free w ↦ inl (search rules)
+      | then-not-free-via-else-not-free+then-not-empty w ↦ inr (search rules)
+    ]
 
 pub over-requires-clause-in_range : goal.over-requires-clause-in_range
 over-requires-clause-in_range g c =

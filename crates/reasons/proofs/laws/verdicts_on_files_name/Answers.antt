@@ -1,8 +1,9 @@
+use Rattle.rules.specs.Sizes.{largest}
 use Rattle.reasons.proofs.Rows.{a_dsc, a_missing_file, a_sidecar, a_taken_file}
 use Rattle.reasons.proofs.laws.verdicts_on_files_name.Goals as goal
 
 pub returns-clause-dsc : goal.returns-clause-dsc
-returns-clause-dsc g = λ config shelves u. a_dsc u
+returns-clause-dsc g = λ config shelves u. a_dsc (largest config) u
 
 pub returns-clause-sidecar : goal.returns-clause-sidecar
 returns-clause-sidecar g = λ config shelves u. a_sidecar u

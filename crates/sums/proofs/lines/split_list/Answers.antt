@@ -7,7 +7,7 @@ use Rattle.sums.proofs.lines.split_list.Goals.{then-not-any_failed+in_ok-push, e
 use Rattle.sums.proofs.lines.split_list.Goals as goal
 
 pub loop-text-init : goal.loop-text-init
-loop-text-init c = rw c.new-lines.ensures.items (split_none c.args.before (line_form c.args.form))
+loop-text-init c = rw c.new-lines.ensures.items (split_none c.args.most c.args.before (line_form c.args.form))
 
 pub loop-text-preserved : goal.loop-text-preserved
 loop-text-preserved c =
@@ -19,9 +19,9 @@ loop-text-preserved c =
     map_more (λ t. t.now) texts i no_text c.loop-text-test.true ∙ ap (λ l. map (λ t. t.now) (take i texts) ++ l ∷ []) (sym c.in_ok-line.ensures) in
     elim c.if-not-any_failed.branch [
       | then-not-any_failed+in_ok-push w ↦ rw (more, w.lines-is, w.in_ok-push.ensures.items, c.with_line-failed.ensures)
-          (split_kept c.args.before c.loop-text.failed form (map (λ t. t.now) (take i texts)) c.loop-text.lines.items line c.loop-text.invariant (sym (ap any_failed c.with_line-failed.ensures) ∙ (sym c.any_failed.ensures ∙ w.if-not-any_failed.true)))
+          (split_kept c.args.most c.args.before c.loop-text.failed form (map (λ t. t.now) (take i texts)) c.loop-text.lines.items line c.loop-text.invariant (sym (ap any_failed c.with_line-failed.ensures) ∙ (sym c.any_failed.ensures ∙ w.if-not-any_failed.true)))
       | else-not-any_failed w ↦ rw (more, w.lines-is, c.with_line-failed.ensures)
-          (split_past c.args.before c.loop-text.failed form (map (λ t. t.now) (take i texts)) c.loop-text.lines.items line c.loop-text.invariant (sym (ap any_failed c.with_line-failed.ensures) ∙ (sym c.any_failed.ensures ∙ w.if-not-any_failed.false)))
+          (split_past c.args.most c.args.before c.loop-text.failed form (map (λ t. t.now) (take i texts)) c.loop-text.lines.items line c.loop-text.invariant (sym (ap any_failed c.with_line-failed.ensures) ∙ (sym c.any_failed.ensures ∙ w.if-not-any_failed.false)))
     ]
 
 pub returns : goal.returns

@@ -3,9 +3,9 @@ use Rattle.std.specs.Option.{option_and_then, option_map_or}
 use Rattle.para.specs.Field.{FieldValue}
 use Rattle.para.specs.Value.{folded_value}
 use Rattle.rules.specs.Days.{days_in}
-use Rattle.rules.specs.Paragraphs.{days, first_line, lines_behind, words}
+use Rattle.rules.specs.Paragraphs.{days, first_line, lines_behind, mebibytes, size_said, words}
 use Rattle.rules.specs.Uploaders.{rules_in}
-use Rattle.output.proofs.FieldLemmas.{also_alike, architectures_alike, codename_alike, components_alike, description_alike, keep_alike, label_alike, origin_alike, suite_alike, uploaders_alike, valid_alike}
+use Rattle.output.proofs.FieldLemmas.{also_alike, architectures_alike, codename_alike, components_alike, description_alike, keep_alike, label_alike, origin_alike, size_alike, suite_alike, uploaders_alike, valid_alike}
 use Rattle.output.proofs.checking.laws.unknown_fields_change_nothing.Goals as goal
 
 first : Option FieldValue → Option (List ℕ)
@@ -29,3 +29,7 @@ returns-clause-suite c p = λ i. record {
 pub returns-clause-days : goal.returns-clause-days
 unfolding first_line days first
 returns-clause-days c p = ap (λ found. option_and_then days_in (first found)) (keep_alike p)
+
+pub returns-clause-size : goal.returns-clause-size
+unfolding mebibytes
+returns-clause-size c p = ap (λ found. option_and_then size_said found) (size_alike p)

@@ -1,5 +1,6 @@
 use Rattle.std.proofs.Common.{inl, inr, arith}
 use Rattle.std.proofs.lemmas.Result.{err_from_is_err_and}
+use Rattle.history.proofs.Limits.{named_changes}
 use Rattle.history.proofs.Received.{received_delivered, received_none, received_short, too_long}
 use Rattle.queue.proofs.archive.Archive.receive_record.Goals as goal
 
@@ -13,12 +14,14 @@ returns-in_err-skip-clause-crash g c h kept clean left may = inl may
 
 pub returns-then-whole-gt-MOST_CHANGES-clause-received : goal.returns-then-whole-gt-MOST_CHANGES-clause-received
 returns-then-whole-gt-MOST_CHANGES-clause-received g c =
+    let config = (g.K.Keeper.book c.args.self.now.keeper).config in
+    let most = named_changes config c.args.name.now c.requires.a_record in
     let read = c.in_ok-skip.ensures.ok in (
       inl (
         read.0,
         read.1,
-        c.requires.small,
-        too_long c.args.name.now read.0 c.args.moment c.requires.named c.requires.a_record (omega (arith, read.1.1, c.requires.small)) (omega (arith, read.1.1, c.if-whole-gt-MOST_CHANGES.true)),
+        omega (arith, most, c.requires.small),
+        too_long config c.args.name.now read.0 c.args.moment c.requires.named c.requires.a_record (omega (arith, read.1.1, most, c.requires.small)) (omega (arith, read.1.1, c.if-whole-gt-MOST_CHANGES.true)),
       ),
       λ h kept clean. kept,
     )
@@ -37,7 +40,8 @@ returns-in_err-body-clause-crash g c h kept clean left may = inl may
 pub returns-clause-received : goal.returns-clause-received
 returns-clause-received g c =
     let is = c.as_slice.ensures.value in
-    received_delivered g.K.Keeper _ _ c.args.name.now c.args.whole c.args.moment _ _ c.deliver.ensures.lasts c.in_ok-body.body.items c.in_ok-body.ensures.gave c.requires.small c.deliver.result
+    let most = named_changes (g.K.Keeper.book c.args.self.now.keeper).config c.args.name.now c.requires.a_record in
+    received_delivered g.K.Keeper _ _ c.args.name.now c.args.whole c.args.moment _ _ c.deliver.ensures.lasts c.in_ok-body.body.items c.in_ok-body.ensures.gave (omega (arith, most, c.requires.small)) c.deliver.result
     (rw is at c.deliver.ensures.step) c.deliver.ensures.err (rw is at c.deliver.ensures.refused)
 
 pub returns-clause-crash : goal.returns-clause-crash

@@ -3,7 +3,7 @@ use Rattle.std.specs.Option.{option_and_then}
 use Rattle.sqlite.specs.Held.{state}
 use Rattle.tables.specs.declared.rows.BodyRow.{BodyRow}
 use Rattle.tables_meaning.proofs.ReadsLemmas.{survives_foreign}
-use Rattle.keep_tables.proofs.arrived.print_numbered.Goals as goal
+use Rattle.tables_bodies.proofs.file_pieces.print_numbered.Goals as goal
 
 pub returns-in_err-found-clause-survives : goal.returns-in_err-found-clause-survives
 returns-in_err-found-clause-survives g c = survives_foreign (state g.S.Store c.args.conn.now) (state g.S.Store c.body_numbered.new.conn) c.body_numbered.ensures.survives

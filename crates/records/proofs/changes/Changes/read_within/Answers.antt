@@ -1,0 +1,26 @@
+use Rattle.std.proofs.Common.{ap}
+use Rattle.std.proofs.lemmas.Result.{err_from_is_err_and}
+use Rattle.para.specs.Fields.{fields_in}
+use Rattle.records.specs.Records.{changes_within, changes_fault, changes_of, of_fields, unless, changes_limit}
+use Rattle.records.proofs.FromFields.{refused_text, read_from, refused_from}
+use Rattle.records.proofs.changes.Changes.read_within.Goals as goal
+
+pub returns-in_err-paragraph-clause-refused : goal.returns-in_err-paragraph-clause-refused
+unfolding changes_within
+returns-in_err-paragraph-clause-refused c =
+    let p = err_from_is_err_and c.from_residual.result c.from_residual.ensures.1 in
+    rw (p.1, p.2) (refused_text (λ f. unless (changes_fault c.args.most f) (changes_of c.args.most f)) (fields_in c.args.text.now changes_limit) _ c.in_err-paragraph.ensures.refused)
+
+pub returns-clause-read : goal.returns-clause-read
+unfolding changes_within
+returns-clause-read c =
+    read_from c.changes_from.result (changes_fault c.args.most c.in_ok-paragraph.paragraph) (changes_of c.args.most c.in_ok-paragraph.paragraph) (changes_within c.args.most c.args.text.now)
+    (ap (of_fields (λ f. unless (changes_fault c.args.most f) (changes_of c.args.most f))) c.in_ok-paragraph.ensures.read)
+    c.changes_from.ensures.only c.changes_from.ensures.read
+
+pub returns-clause-refused : goal.returns-clause-refused
+unfolding changes_within
+returns-clause-refused c =
+    refused_from c.changes_from.result (changes_fault c.args.most c.in_ok-paragraph.paragraph) (changes_of c.args.most c.in_ok-paragraph.paragraph) (changes_within c.args.most c.args.text.now)
+    (ap (of_fields (λ f. unless (changes_fault c.args.most f) (changes_of c.args.most f))) c.in_ok-paragraph.ensures.read)
+    c.changes_from.ensures.refused
