@@ -839,25 +839,28 @@ class Served(Lines):
                 self.assertEqual([self.has(copy, it) for it in (0, before - 1, after)], [True, True, False])
 
     def test_it_goes_on_after_each_that_is_killed(self):
-        """No reply is lost, and each backup that ended has a state between its begin and its end."""
+        """No reply is lost, and each backup that is there has a state between its begin and its end."""
         end, finished, number = time.monotonic() + KILLING, [], 0
         with Serving(self.db, 1_000_000) as serving, Putting(serving) as client:
             killer = Killer(lambda: state_of(serving.process.pid), self.started)
             self.assertTrue(wait_until(lambda: client.answered))
             while killer.killed < KILLS and time.monotonic() < end:
-                before = client.answered
+                before, there = client.answered, set(os.listdir(self.copies))
                 printed = killer.once(number)
                 number += 1
                 after = client.begun
+                # A backup that is killed after its folder has its name prints nothing, and is there.
+                new = [it for it in os.listdir(self.copies) if it not in there and it != BACKUP.ROOM]
                 if printed:
-                    finished.append((printed.strip(), before, after))
+                    self.assertEqual([f"{self.copies}/{it}/{os.path.basename(self.db)}" for it in new], [printed.strip()])
+                finished.extend((f"{self.copies}/{it}/{os.path.basename(self.db)}", before, after) for it in new)
                 self.assertTrue(wait_until(lambda: client.answered > after or client.wrong is not None), "the server is held")
                 self.assertIsNone(client.wrong)
             self.assertIn(b" 200 ", serving.answer(get("verdicts"))[:20])
         for copy, before, after in finished:
             self.assertEqual([self.has(copy, before - 1), self.has(copy, after)], [True, False], copy)
         names = [pathlib.Path(it).parent.name for it, _, _ in finished]
-        self.assertEqual(set(os.listdir(self.copies)) - set(names), {BACKUP.ROOM})
+        self.assertEqual(set(os.listdir(self.copies)) - {BACKUP.ROOM}, set(names))
         self.assertGreater(killer.killed, 10)
         print(f"Of {number} backups {killer.killed} were killed, {killer.held} of them while the server was held.")
         print(f"It answered {client.answered} files, each within {client.longest:.2f} seconds.")
