@@ -14,6 +14,7 @@ import signal
 import socket
 import subprocess
 import tempfile
+import termios
 import textwrap
 import time
 import unittest
@@ -108,6 +109,9 @@ PIECES = {
     "copy": "copy=copies/",
     "reserve": "fallocate -l",
     "adopt": "adopt conf old",
+    "old key": "--export-secret-keys KEY",
+    "password of a key": "--change-passphrase KEY",
+    "adopt anew": "rm -rf box.db* ready www",
     "anew": "> accepted",
     "look": 'archive verdicts --db "$copy"',
     "pack": "sqlite3 box.db VACUUM\n",
@@ -245,9 +249,9 @@ class Room:
             time.sleep(0.01)
         return process
 
-    def typed(self, text, password):
-        """Runs a text by a shell at a terminal, at which this password is typed wherever one is asked for. Answers the status, and all
-        that was printed."""
+    def typed(self, text, *passwords):
+        """Runs a text by a shell at a terminal, at which these passwords are typed in turn wherever one is asked for, and the last one from then
+        on. Answers the status, and all that was printed."""
         number, terminal = pty.fork()
         if not number:
             os.chdir(self.work)
@@ -256,9 +260,10 @@ class Room:
         with contextlib.suppress(OSError):  # which is how a terminal ends
             while select.select([terminal], [], [], 60)[0] and (part := os.read(terminal, 1 << 16)):
                 printed += part
-                if len(re.findall(rb"(?i)password[^\n]*: ?", printed)) > asked:
+                if len(re.findall(rb"(?i)pass(?:word|phrase)[^:\n]*: ?", printed)) > asked:
+                    wait_for_no_echo(terminal)
+                    os.write(terminal, f"{passwords[min(asked, len(passwords) - 1)]}\n".encode())
                     asked += 1
-                    os.write(terminal, f"{password}\n".encode())
         os.close(terminal)
         return os.waitstatus_to_exitcode(os.waitpid(number, 0)[1]), printed.decode(errors="backslashreplace")
 
@@ -343,6 +348,13 @@ class Room:
         text = APT.format(base=base, certificate=f"{self.folder}/certificate.pem")
         pathlib.Path(base, "apt.conf").write_text(text, encoding="utf-8")
         self.variables["APT_CONFIG"] = f"{base}/apt.conf"
+
+
+def wait_for_no_echo(terminal):
+    """Waits until what is typed at a terminal is not shown, but not for long: some programs throw away what was typed before that."""
+    end = time.monotonic() + 5
+    while termios.tcgetattr(terminal)[3] & termios.ECHO and time.monotonic() < end:
+        time.sleep(0.01)
 
 
 def is_open(port):

@@ -54,6 +54,8 @@ DEBIAN = {
 ENVIRONMENT = {**os.environ, "SOURCE_DATE_EPOCH": "1467435600", "LC_ALL": "C.UTF-8"}
 # The bytes of a MiB, and what is said below a file that an archive may take all the same.
 MEBIBYTE, HINT = 1 << 20, ": MaxFileSize may let it in"
+# The Date of a Release, and a later one.
+DATE, LATER = "Sat, 02 Jul 2016 05:00:00 UTC", "Sat, 02 Jul 2016 05:00:01 UTC"
 BOX = "Codename: box\nArchitectures: amd64 source\nComponents: main\n"
 DISTRIBUTIONS = """Origin: Example
 Label: Example
@@ -71,6 +73,9 @@ Codename: brave
 Architectures: amd64 source
 Components: main contrib
 """
+# Suites of which machines miss nothing in the new archive, and such suites with signatures.
+AUTOMATIC = DISTRIBUTIONS.replace("NotAutomatic: yes\n", "")
+SIGNED = AUTOMATIC.replace("Components: main contrib\n", "Components: main contrib\nSignWith: ann@example.org\n")
 
 
 def run(*words, cwd=None, status=0, env=None, **more):
@@ -138,12 +143,16 @@ class Room:
             self.sign(dsc)
         return dsc
 
-    def sign(self, path):
+    def gnupg(self):
+        """The folder of a key. It is made if it is not there."""
         home = self.folder / "gnupg"
         if not home.exists():
             home.mkdir(mode=0o700)
             run("gpg", "--homedir", home, "--batch", "--passphrase", "", "--quick-generate-key", "Ann <ann@example.org>", "default", "sign", "never")
-        run("gpg", "--homedir", home, "--batch", "--yes", "--clear-sign", "--output", f"{path}.asc", path)
+        return home
+
+    def sign(self, path):
+        run("gpg", "--homedir", self.gnupg(), "--batch", "--yes", "--clear-sign", "--output", f"{path}.asc", path)
         os.replace(f"{path}.asc", path)
 
     def packages(self):
@@ -161,17 +170,21 @@ class Room:
         udeb = [self.deb("tiny-udeb", section="debian-installer", ending="udeb")]
         return {"sound": [*lat, *libx, *lone, *large, *latin, *udeb], "brave": [*lat2, lone[0]]}
 
-    def reprepro(self, packages=None):
+    def reprepro(self, packages=None, distributions=DISTRIBUTIONS):
         """An archive of these packages by suites, or of those above."""
         base = self.folder / "reprepro"
         (base / "conf").mkdir(parents=True)
-        (base / "conf/distributions").write_text(DISTRIBUTIONS)
+        (base / "conf/distributions").write_text(distributions)
         for suite, files in (packages or self.packages()).items():
             for file in files:
                 word = {".deb": "includedeb", ".udeb": "includeudeb", ".dsc": "includedsc"}[file.suffix]
                 more = ["--ignore=undefinedtarget", "-S", "utils", "-P", "optional"] if file.suffix == ".dsc" else []
-                run("reprepro", "-s", "-b", base, *more, word, suite, file)
+                run("reprepro", "-s", "-b", base, *more, word, suite, file, env=self.signing() if "SignWith" in distributions else None)
         return base
+
+    def signing(self):
+        """The environment of a program that signs."""
+        return {**ENVIRONMENT, "GNUPGHOME": str(self.gnupg())}
 
 
 @needs("dpkg-source", "dpkg-scanpackages")
@@ -339,48 +352,156 @@ class Adopting(unittest.TestCase):
         self.assertEqual(flat.read_text(), list_.read_text())
         self.taken(old, conf, flat, [], "--suite", "box")
 
+    def test_how_often_a_package_is_read(self):
+        """dpkg-deb is asked once for each package file, with an index and without."""
+        old = self.on_server("p1", "p2", "p3")
+        control_of = ADOPT.sidecars.control_of
+        for tree in (old, old / "pool"):
+            with unittest.mock.patch.object(ADOPT.sidecars, "control_of", side_effect=control_of) as asked:
+                self.assertEqual(self.inside("make", tree, self.folder / "ready", "--suite", "box")[0], 0)
+            self.assertEqual(asked.call_count, 3)
+
+    def test_a_file_that_changes(self):
+        """If a file changes after it was looked at, its upload does not come, and the others do."""
+        old, lat, write_files = self.folder / "old", self.room.source("lat", "1.0-1"), ADOPT.sidecars.write_files
+        old.mkdir()
+        for path in (lat, *self.folder.glob("lat_*.tar.*"), self.room.deb("lat"), self.room.deb("good")):
+            shutil.copy(path, old)
+
+        def late(files, folder):
+            if "lat_1.0-1_amd64.deb" in files:
+                with open(old / "lat_1.0-1_amd64.deb", "ab") as file:
+                    file.write(b"x")
+            return write_files(files, folder)
+
+        with unittest.mock.patch.object(ADOPT.sidecars, "write_files", late):
+            status, printed, told = self.inside("make", old, self.folder / "ready", "--suite", "box")
+        lines = [f"adopt: box lat 1.0-1 {it}: lat_1.0-1_amd64.deb changed while it was read" for it in ("source", "amd64")]
+        self.assertEqual((status, told.splitlines()), (1, [*lines, "adopt: 1 uploads, and 2 packages that can't come"]))
+        names = [line.rpartition("/")[2] for line in printed.splitlines()]
+        self.assertEqual(names, ["good_1.0-1_amd64.deb", "good_1.0-1_amd64.control", "good_1.0-1_box.changes", "run"])
+
+    def program(self):
+        """Skips the test if the program is not there."""
+        if not os.path.exists(PROGRAM):
+            raise missing(PROGRAM)
+
+    def machine(self, place, *lines):
+        """A machine with these lists, as a function that runs a command there, and answers what it prints."""
+        place.apt("".join(f"{it}\n" for it in lines))
+        config = place.variables["APT_CONFIG"]
+
+        def ran(command):
+            status, printed, told = place.run(f"APT_CONFIG={config}; {command}")
+            self.assertEqual((status, told.replace("W: Target", "")), (0, ""), printed + told)
+            return printed
+
+        return ran
+
     @needs("reprepro", "gpg", "apt-get", "curl")
     def test_the_same_address(self):
         """What machines have of the old archive they have of the new one at its address, with no question asked."""
-        old = self.room.reprepro()
+        old = self.room.reprepro(distributions=AUTOMATIC)
         (self.folder / "box.conf").write_text(self.adopt("conf", old).stdout)
         list_, _ = self.made(old, "--conf", self.folder / "box.conf")
-        if not os.path.exists(PROGRAM):
-            raise missing(PROGRAM)
-        db, at = self.folder / "box.db", ("--at", MOMENT)
-        run(PROGRAM, "init", "--db", db, *at, self.folder / "box.conf")
+        self.program()
+        db, later = self.folder / "box.db", str(int(time.time()) + 1)
+        run(PROGRAM, "init", "--db", db, "--at", later, self.folder / "box.conf")
         address = free_address()
         url = "http://%s:%d" % address
         place = snippets.Room()
         self.addCleanup(place.close)
-        place.apt("".join(f"deb [trusted=yes] {url} {suite} main contrib\n" for suite in ("sound", "brave")))
+        machine = self.machine(place, *(f"deb [trusted=yes] {url} {suite} main contrib" for suite in ("sound", "brave")))
         update = "apt-get -o APT::Update::Error-Mode=any -o APT::Architectures::=amd64 update"
-        words = [sys.executable, "-m", "http.server", "--bind", address[0], "--directory", str(old), str(address[1])]
-        with subprocess.Popen(words, stdout=subprocess.DEVNULL, stderr=subprocess.DEVNULL) as server:
-            place.run(f"for i in 1 2 3 4 5; do sleep 0.5; curl -sf -o /dev/null {url}/ && break; done")
-            self.assertEqual(place.run(update)[0], 0)
-            server.terminate()
-        with Serving(str(db), 10_000, at=MOMENT, address=address):
+        server = place.start(["python3", "-m", "http.server", "--bind", address[0], "--directory", str(old), str(address[1])], port=address[1])
+        machine(update)
+        place.end(server)
+        with Serving(str(db), 10_000, at=later, address=address):
             sent = self.adopt("send", list_, url)
             self.assertEqual(sent.stdout.count("accepted "), 8, sent.stdout)
             # lone 0.3 and its sidecar, and the upstream of lat, which two suites have
             self.assertEqual(sent.stdout.count("again "), 2 + 1, sent.stdout)
-            status, printed, told = place.run(update)
-            self.assertEqual((status, told.replace("W: Target", "")), (0, ""), printed + told)
-            download = "apt-get -o APT::Architectures::=amd64 download lat=1.0-2 libx1 large && dpkg-deb -I lat_1.0-2_amd64.deb"
-            self.assertEqual(place.run(download)[0], 0)
+            machine(update)
+            self.assertEqual(machine("apt-cache policy").count(f" {url} sound/"), 2)
+            self.assertNotIn("latin", machine("apt-cache pkgnames"))
+            machine("apt-get -o APT::Architectures::=amd64 download lat=1.0-2 libx1 large && dpkg-deb -I lat_1.0-2_amd64.deb")
             differs = self.adopt("compare", old, url, status=1)
             lines = [it for it in differs.stdout.splitlines() if it.startswith(("missing", "other", "more", "release"))]
-            self.assertEqual(lines, ["release sound NotAutomatic: yes in OLD, none in NEW", "missing sound latin 1.0-1 amd64"])
+            self.assertEqual(lines, ["missing sound latin 1.0-1 amd64"])
             again = self.adopt("send", list_, url)
             self.assertEqual(set(re.findall("^[a-z]+", again.stdout, re.M)), {"again"})
 
+    @needs("reprepro", "gpg", "apt-get")
+    def test_the_switch_and_the_way_back(self):
+        """The lines of the page, over a signed archive at an address: each machine goes on with the lists that it has, by whichever name it asks for a
+        suite, and so it does when the address leads to the old archive again."""
+        self.program()
+        files = {"sound": [self.room.source("lat", "1.0-1"), self.room.deb("lat")], "brave": [self.room.deb("lone", "0.3")]}
+        home, environment = self.room.gnupg(), self.room.signing()
+        old = self.room.reprepro(files, SIGNED)
+        run("reprepro", "-b", old, "createsymlinks")
+        place = snippets.Room()
+        self.addCleanup(place.close)
+        os.symlink(old, f"{place.work}/old")
+
+        def shell(text, status=0):
+            ran = place.run(text)
+            self.assertEqual(ran[0], status, ran)
+            return ran[1]
+
+        key = re.search("key ([0-9A-F]{40})\n", place.run("gpg --verify old/dists/sound/InRelease")[2])[1]
+        shell(snippet("old key", {"runuser -u repo -- gpg": f"gpg --homedir {home}", "runuser -u archive -- ": "", "KEY": key}))
+        shell(f"gpg --export {key} > ann.gpg; adopt conf old > box.conf")
+        address = free_address()
+        line = f"deb [signed-by={place.work}/ann.gpg] http://%s:%d {{}} main contrib" % address
+        machines = [self.machine(place, line.format(it)) for it in ("sound", "stable", "brave")]
+        update = "apt-get -o APT::Update::Error-Mode=any update && apt-cache dumpavail"
+
+        def seen(tree):
+            """What the machines have once the address leads to a tree."""
+            server = place.start(["python3", "-m", "http.server", "--bind", address[0], "--directory", f"{place.work}/{tree}", str(address[1])], port=address[1])
+            found = [machine(update) for machine in machines]
+            place.end(server)
+            releases = [machine("cat $(dirname $APT_CONFIG)/var/lib/apt/lists/*_InRelease") for machine in machines]
+            wanted = [pathlib.Path(place.work, tree, "dists", it, "InRelease").read_text() for it in ("sound", "stable", "brave")]
+            self.assertEqual(releases, wanted)
+            return [re.findall("^(?:Package|Version|SHA256): .*", it, re.M) for it in found]
+
+        def sign():
+            shell(snippet("signed tree", {"archive@example.org": key}))
+
+        before = seen("old")
+        self.assertEqual([len(it) for it in before], [3, 3, 3])
+        time.sleep(1)
+        place.run(snippet("adopt anew"))
+        sign()
+        lines = shell("adopt compare old www", 1).splitlines()
+        self.assertEqual(lines[:-2] + lines[-1:], ["name brave testing", "name sound stable", "3 the same, 1 says, 2 name"])
+        shell("ln -s sound www/dists/stable; ln -s brave www/dists/testing")
+        self.assertEqual(shell("adopt compare old www"), "says 1 sources: Section or Priority\n3 the same, 1 says\n")
+        after = seen("www")
+        self.assertEqual([sorted(it) for it in after], [sorted(it) for it in before])
+        # What comes, and is taken out, since then
+        self.room.deb("late", "2.0")
+        shell(f"with_sidecars --distribution stable {self.folder}/late_2.0_amd64.deb up > files; archive put --db box.db --at $(date +%s) $(cat files)")
+        shell("archive run --db box.db --at $(date +%s); archive remove --db box.db --at $(date +%s) brave lone")
+        sign()
+        self.assertIn("Package: late", seen("www")[1])
+        lines = shell("adopt compare www old", 1).splitlines()
+        self.assertEqual([it for it in lines if it.startswith(("missing", "more"))], ["more brave lone 0.3 amd64", "missing sound late 2.0 amd64"])
+        self.assertEqual([it.split()[:3] for it in lines if it.startswith("release")], [["release", it, "Date:"] for it in ("brave", "sound")])
+        time.sleep(1)
+        pool = f"{place.work}/www/pool/main/l/late/late_2.0_amd64.deb"
+        for words in (["includedeb", "sound", pool], ["remove", "brave", "lone"], ["export"]):
+            run("reprepro", "-s", "-b", old, *words, env=environment)
+        self.assertEqual(shell("adopt compare www old"), "says 1 sources: Section or Priority\n3 the same, 1 says\n")
+        self.assertIn("Package: late", seen("old")[1])
+
     def taken(self, old, conf, list_, wanted, *words):
-        """Has an archive take the uploads of a list, and compares what both show."""
-        if not os.path.exists(PROGRAM):
-            raise missing(PROGRAM)
+        """Has an archive take the uploads of a list, later than the tree was made, and compares what both show."""
+        self.program()
         (self.folder / "box.conf").write_text(conf)
-        db, at = self.folder / "box.db", ("--at", "1700000000")
+        db, at = self.folder / "box.db", ("--at", str(int(time.time()) + 1))
         run(PROGRAM, "init", "--db", db, *at, self.folder / "box.conf")
         report = run(PROGRAM, "batch", "--db", db, *at, list_).stdout
         self.assertNotIn("refused", report)
@@ -399,10 +520,10 @@ class Adopting(unittest.TestCase):
         folder = self.folder / tree / "dists" / name / "main/binary-amd64"
         folder.mkdir(parents=True, exist_ok=True)
         (folder / "Packages").write_text(index)
-        values = {"Codename": name, "Architectures": "amd64", "Components": "main", **values}
+        values = {"Codename": name, "Date": DATE, "Architectures": "amd64", "Components": "main", **values}
         lists = f"SHA256:\n {hashlib.sha256(index.encode()).hexdigest()} {len(index)} main/binary-amd64/Packages\n"
         text = "".join(f"{field}: {value}\n" for field, value in values.items() if value)
-        (folder.parent.parent / "Release").write_text(f"{text}Date: Sat, 02 Jul 2016 05:00:00 UTC\n{lists}")
+        (folder.parent.parent / "Release").write_text(text + lists)
         return self.folder / tree
 
     def test_the_suite_in_a_configuration(self):
@@ -441,12 +562,13 @@ class Adopting(unittest.TestCase):
             ({"Components": "main contrib"}, "Components: main in OLD, contrib main in NEW", 0),
             ({"Architectures": "source all amd64", "Components": "updates/main", "Description": "x", "Acquire-By-Hash": "yes"}, None, 0),
         ]
+        values["Date"] = LATER
         for changes, line, status in rows:
             with self.subTest(changes):
                 printed = f"release box {line}\n0 the same, 1 release\n" if line else "0 the same\n"
                 self.assertEqual(self.inside("compare", old, self.released("new", **{**values, **changes})), (status, printed, ""))
         # A suite that is renamed has another Codename, and nothing else.
-        new = self.released("new", "lab", **values)
+        new = self.released("new", "lab", **{**values, "Date": DATE})
         self.assertEqual(self.inside("compare", old, new, "--suite", "box=lab"), (0, "0 the same\n", ""))
         self.released("new", "lab", **{**values, "Suite": None, "Label": "Theirs"})
         lines = "release lab Suite: stable in OLD, none in NEW\nrelease lab Label: Ours in OLD, Theirs in NEW\n0 the same, 2 release\n"
@@ -458,6 +580,78 @@ class Adopting(unittest.TestCase):
         old.mkdir()
         (old / "Packages").touch()
         self.assertEqual(self.inside("compare", old, new, "--suite", "box"), (0, "0 the same\n", ""))
+
+    def test_a_date_that_is_not_later(self):
+        """It has a line, and the status is 1. Releases that are the same have none, and neither has one to which there is no older Date."""
+        for first, second, is_named in (
+            (DATE, DATE, False),
+            (DATE, LATER, False),
+            (LATER, DATE, True),
+            (DATE, "Sat, 2 Jul 2016 05:00:00 +0000", True),
+            ("Sat, 02 Jul 2016 05:00:00 +0200", "Sat, 02 Jul 2016 03:00:01 GMT", False),
+            (DATE, "Sat, 02 Jul 2016 05:00:01 +0200", True),
+            (DATE, "Sun, 02 Jul 2017 05:00:00 UTC", False),
+            (DATE, None, True),
+            (DATE, "soon", True),
+            (DATE, "Sat, 02 Jul 99999999999999 05:00:00 UTC", True),
+            (None, DATE, False),
+            ("soon", DATE, False),
+            (None, None, False),
+        ):
+            with self.subTest(f"{first} {second}"):
+                old, new = self.released("old", Date=first), self.released("new", Date=second)
+                line = f"release box Date: {first} in OLD, {second or 'none'} in NEW\n0 the same, 1 release\n"
+                self.assertEqual(self.inside("compare", old, new), (1, line, "") if is_named else (0, "0 the same\n", ""))
+        lines = f"release box Label: none in OLD, Ours in NEW\nrelease box Date: {DATE} in OLD, {DATE} in NEW\n0 the same, 2 release\n"
+        self.assertEqual(self.inside("compare", self.released("old"), self.released("new", Label="Ours")), (1, lines, ""))
+
+    def test_other_names_of_a_suite(self):
+        """`conf` says by which other names machines may ask for a suite, and `compare` which of them the new tree lacks."""
+        old, new = self.released("old", Suite="stable"), self.released("new", Suite="stable")
+        said, named = "adopt: box: machines may name it stable, too: a tree needs a link of that name\n", "name box stable\n0 the same, 1 name\n"
+
+        def looked(told, status, printed):
+            with served(old) as url, served(new) as other:
+                for tree, words in ((old, ()), (url, ("--suite", "box"))):
+                    self.assertEqual(self.inside("conf", tree, *words)[2], told)
+                    for it in (new, other):
+                        self.assertEqual(self.inside("compare", tree, it, *words), (status, printed, ""))
+
+        looked("", 0, "0 the same\n")
+        (old / "dists/stable").symlink_to("box")
+        looked(said, 1, named)
+        # Whoever renames a suite gives each machine another line.
+        self.released("new", "lab", Suite="stable")
+        self.assertEqual(self.inside("compare", old, new, "--suite", "box=lab"), (0, "0 the same\n", ""))
+        self.assertEqual(self.inside("conf", old, "--suite", "box=lab")[2], "")
+        (new / "dists/stable").symlink_to("box")
+        looked(said, 0, "0 the same\n")
+        # An export has each suite as a link to a folder of a state, and the other names as links to that link.
+        (old / "dists/box").rename(old / "dists/.box.0")
+        (old / "dists/box").symlink_to(".box.0")
+        looked(said, 0, "0 the same\n")
+        self.assertEqual(re.findall("^Codename: .*", self.inside("conf", old)[1], re.M), ["Codename: box"])
+        # Another suite may have the name that the Release of this one has.
+        (old / "dists/stable").unlink()
+        (new / "dists/stable").unlink()
+        self.released("old", "stable")
+        with served(old) as url:
+            self.assertEqual(self.inside("conf", url, "--suite", "box")[2], "")
+
+    @needs("apt-get", "apt-cache")
+    def test_apt_and_a_date_that_is_not_later(self):
+        """The real apt says nothing, and keeps the indices that it has, if the Date is earlier."""
+        index = "Package: {}\nVersion: 1.0\nArchitecture: amd64\nFilename: pool/x.deb\nSize: 1\nSHA256: " + "0" * 64 + "\n"
+        place = snippets.Room()
+        self.addCleanup(place.close)
+        for date, wanted in ((LATER, "two\n"), (DATE.replace("05:00", "04:59"), "one\n")):
+            old = self.released("old", index=index.format("one"))
+            with served(old) as url:
+                place.apt(f"deb [trusted=yes] {url} box main\n")
+                self.assertEqual(place.run("apt-get update")[0], 0)
+                release = self.released("old", index=index.format("two"), Date=date) / "dists/box/Release"
+                os.utime(release, (release.stat().st_mtime + 2,) * 2)  # its server says that it is a newer file
+                self.assertEqual(place.run("apt-get update > update && apt-cache pkgnames"), (0, wanted, ""))
 
     @needs("apt-get", "apt-cache")
     def test_apt_and_a_release_that_differs(self):
@@ -532,6 +726,33 @@ class Adopting(unittest.TestCase):
             place.apt(f"deb [trusted=yes] {url} box main\n")
             status, _, told = place.run("rm -f *.deb; apt-get update && apt-get download lone && dpkg-deb -I lone_1.0-1_amd64.deb")
             self.assertEqual((status, told), (0, ""))
+
+    @needs("nginx", "openssl", "curl")
+    def test_an_address_with_a_path_and_a_suite_with_another_name_by_the_proxy(self):
+        self.program()
+        place = snippets.Room()
+        self.addCleanup(place.close)
+        (self.folder / "box.conf").write_text(BOX)
+        db = str(self.folder / "box.db")
+        run(PROGRAM, "init", "--db", db, "--at", MOMENT, self.folder / "box.conf")
+        place.write("uploaders", "ann:{PLAIN}a secret\n")
+        place.write("work/signed/dists/box/InRelease", "it is signed\n")
+        lines, page = ["rewrite ^/debian/(.*)$ /$1;", "rewrite ^/dists/stable/(.*)$ /dists/box/$1;"], snippets.pages()
+        for line in lines:
+            self.assertIn(f"`{line}`", page)
+        text = snippet("nginx", {"    location /pool/ {\n": "".join(f"    {it}\n" for it in [*lines, "location /pool/ {"])})
+        certificate, _ = place.certificate()
+        place.variables["CURL_CA_BUNDLE"] = certificate
+        with Serving(db, 100, at=MOMENT) as archive:
+            archive.connected().close()
+            port = free_port()
+            place.start(["nginx", "-c", place.proxy(text, port, archive.address[1])], port=port)
+            for top in ("", "debian/"):
+                for suite in ("box", "stable"):
+                    url = f"https://localhost:{port}/{top}dists/{suite}"
+                    self.assertEqual(place.run(f"curl -sSf {url}/InRelease"), (0, "it is signed\n", ""))
+                    self.assertEqual(place.run(f"curl -sSf {url}/main/binary-amd64/Packages"), (0, "", ""))
+                    self.assertIn("\nCodename: box\n", f"\n{place.run(f'curl -sSf {url}/Release')[1]}")
 
     def test_sources_of_which_the_place_differs(self):
         """They have one line for all suites. A source of which more differs has its own, and so has a package."""
@@ -641,8 +862,8 @@ class Adopting(unittest.TestCase):
         old = self.room.reprepro({"brave": [self.room.source("lat", "1.0-1"), self.room.deb("lat"), self.room.deb("lone", "0.3")]})
         place = snippets.Room()
         self.addCleanup(place.close)
-        if not os.path.exists(PROGRAM):
-            raise missing(PROGRAM)
+        self.program()
+        time.sleep(1)  # so that the new Date is later
         os.symlink(old, f"{place.work}/old")
         words = "--suite brave old"  # of two suites the other one has nothing
         text = snippet("adopt", {"conf old": f"conf {words}", "make old": f"make {words}", "compare old": f"compare {words}"})
@@ -994,13 +1215,13 @@ class Adopting(unittest.TestCase):
         self.assertIn(known[0], lines_of(told))
 
     def test_progress_of_a_folder(self):
-        """What has no index is read first."""
+        """What has no index is read first, and not again."""
         old = self.folder / "old"
         old.mkdir()
         self.room.deb("p1", file="old/p1.deb")
         status, printed, told = self.shown("make", old, self.folder / "ready", "--suite", "box")
         self.assertEqual((status, len(printed.splitlines()), rows_of(told)), (0, 4, ["adopt: 1 uploads, and 0 packages that can't come", ""]))
-        self.assertEqual([it for it in lines_of(told) if it.startswith("make")], ["make: 100%, 1 of 1 files", "make: 100%, 1 of 1 packages"])
+        self.assertEqual([it for it in lines_of(told) if it.startswith("make")], ["make: 100%, 1 of 1 files"])
 
     def test_progress_of_what_is_done_soon(self):
         """It has no line, and a terminal that is gone changes nothing."""

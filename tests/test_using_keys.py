@@ -113,6 +113,21 @@ class Keys(snippets.Case):
         self.gpg(snippet("key that ends"))
         self.assertEqual((self.apt_says("www/box.gpg"), self.apt_says("old.gpg")), ("", "EXPKEYSIG"))
 
+    def test_the_key_of_another_archive(self):
+        """The lines of adopting give a key with a password to whoever signs here, and take the password off."""
+        other = f"{self.room.folder}/other"
+        os.mkdir(other, 0o700)
+        self.gpg(f"gpg --homedir {other} --batch --pinentry-mode loopback --passphrase secret --quick-generate-key {FIRST} default sign never")
+        there = {"runuser -u archive -- ": "", "KEY": FIRST}
+        taken = snippet("old key", {**there, "runuser -u repo -- gpg": f"gpg --homedir {other}"})
+        for text, answers in ((taken, ["secret"]), (snippet("password of a key", there), ["secret", ""])):
+            self.room.run(f"gpgconf --kill all; gpgconf --homedir {other} --kill all")
+            status, printed = self.room.typed(text, *answers)
+            self.assertEqual((status, printed.count("Enter passphrase: ")), (0, len(answers)), printed)
+        self.gpg(f"gpg --export {FIRST} > box.gpg")
+        self.sign()
+        self.assertEqual(self.apt_says("box.gpg"), "")
+
     def test_another_key(self):
         self.gpg(snippet("key") + f"gpg --export {FIRST} > old.gpg")
         self.sign()
