@@ -6,14 +6,16 @@ use Rattle.texts.proofs.Pairs.{pairs_map, pairs_unmap}
 use Rattle.tables_meaning.proofs.ArrivalLemmas.{all_unmapped}
 use Rattle.sums.proofs.Words.{list_any-map}
 use Rattle.tables.specs.Arrivals.{is_arrival}
+use Rattle.tables.specs.Bodies.{is_body_there}
 use Rattle.tables.specs.Rows.{first_number, Numbered, Tables, rows_of, without}
+use Rattle.tables.specs.Uploads.{sign_in}
 use Rattle.tables.specs.declared.rows.ArrivalRow.{ArrivalRow}
 use Rattle.tables.specs.declared.rows.File.{File}
 use Rattle.tables.specs.declared.rows.Piece.{Piece}
 use Rattle.tables.specs.declared.rows.Ref.{Ref}
 use Rattle.tables.specs.declared.rows.UploadRow.{UploadRow}
 use Rattle.tables.specs.declared.rows.Want.{Want}
-use Rattle.tables_read.specs.All.{AreConstrained, is_body_there, name_and_print}
+use Rattle.tables_read.specs.All.{AreConstrained}
 use Rattle.old_book.specs.Copying.{anew, arrived_at, copied}
 use Rattle.old_book.specs.Settling.{as_unjudged, settled, unjudged, unjudged_uploads, with_meta_row}
 
@@ -65,11 +67,11 @@ constrained_unjudged t keys = record {
   arrivals_owned = keys.arrivals_owned;
   arrivals_apart = keys.arrivals_apart;
   uploads_apart =
-      subst (AllPairs (λ (u v : UploadRow). name_and_print u ≢ name_and_print v)) (rows_unjudged t.uploads)
-      (pairs_map (λ (u v : UploadRow). name_and_print u ≢ name_and_print v) (λ (u v : UploadRow). name_and_print u ≢ name_and_print v) as_unjudged (rows_of t.uploads) (λ u v _ _ other. other) keys.uploads_apart);
+      subst (AllPairs (λ (u v : UploadRow). sign_in u ≢ sign_in v)) (rows_unjudged t.uploads)
+      (pairs_map (λ (u v : UploadRow). sign_in u ≢ sign_in v) (λ (u v : UploadRow). sign_in u ≢ sign_in v) as_unjudged (rows_of t.uploads) (λ u v _ _ other. other) keys.uploads_apart);
   places_apart =
       subst (AllPairs (λ (u v : UploadRow). u.place ≢ None → u.place ≢ v.place)) (rows_unjudged t.uploads)
-      (pairs_map (λ (u v : UploadRow). u.place ≢ None → u.place ≢ v.place) (λ (u v : UploadRow). name_and_print u ≢ name_and_print v) as_unjudged (rows_of t.uploads) (λ u v _ _ other some. absurd (some refl)) keys.uploads_apart);
+      (pairs_map (λ (u v : UploadRow). u.place ≢ None → u.place ≢ v.place) (λ (u v : UploadRow). sign_in u ≢ sign_in v) as_unjudged (rows_of t.uploads) (λ u v _ _ other some. absurd (some refl)) keys.uploads_apart);
   wants_owned = subst (λ (owner : ℕ → _). All (λ (w : Want). IsTrue (owner w.upload)) (rows_of t.wants)) (λ i id. owners_unjudged t.uploads id i) keys.wants_owned;
   items_apart = keys.items_apart;
   refs_owned = keys.refs_owned;

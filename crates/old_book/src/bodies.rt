@@ -4,9 +4,9 @@ ghost use Rattle.std.specs.Prelude.{Some, None};
 ghost use Rattle.old_book.specs.Placed.{with_body_at};
 ghost use Rattle.tables.specs.Calls.{CommitsNothing, FailsInside, IsSame, Writes};
 
-use crate::number::{as_id, whole};
 use sqlite::{Alter, Error, Transaction, params};
 use sums::Print;
+use tables::number::{as_id, whole};
 use tables::rows::BodyRow;
 
 const COPY_BODY: &str =

@@ -3,8 +3,8 @@
 ghost use Rattle.old_book.specs.Placed.{with_item_at};
 ghost use Rattle.tables.specs.Calls.{CommitsNothing, FailsInside, IsSame, Writes};
 
-use crate::number::{as_id, whole};
 use sqlite::{Alter, Error, Transaction, params};
+use tables::number::{as_id, whole};
 use tables::rows::ItemRow;
 
 const COPY_ITEM: &str =

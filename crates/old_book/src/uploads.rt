@@ -3,8 +3,9 @@
 ghost use Rattle.old_book.specs.Placed.{with_upload_at};
 ghost use Rattle.tables.specs.Calls.{CommitsNothing, FailsInside, IsSame, Writes};
 
-use crate::number::{as_id, some_whole, whole};
+use crate::number::some_whole;
 use sqlite::{Alter, Error, Transaction, params};
+use tables::number::{as_id, whole};
 use tables::rows::UploadRow;
 
 const COPY_UPLOAD: &str =

@@ -1,19 +1,17 @@
 //! How a .dsc or a sidecar differs from what its .changes says, which verdicts 6 and 7 are about.
 
-ghost use Rattle.std.specs.Prelude.{◌≡◌, not, [], ◌∷◌, bytes_eq, string_bytes, IfOk, option_map};
+ghost use Rattle.std.specs.Prelude.{◌≡◌, not, [], ◌∷◌, bytes_eq, IfOk, option_map};
 ghost use Rattle.std.specs.Bool.{then_some};
-ghost use Rattle.records.specs.Records.{is_among};
 ghost use Rattle.suites.specs.Upload.{entry_named};
 ghost use Rattle.suites.specs.Verdict.{dsc_file, sidecar_file};
 ghost use Rattle.reasons.specs.Differences.{dsc_difference, lacked, lists_part, sidecar_difference};
 ghost use Rattle.reasons.specs.Named.{first_some, listed_part, unlisted_file};
 
 use crate::found::{listed_part, unlisted_file};
-use crate::names::entry_named;
 use para::Text;
 use records::{Changes, Dsc, Sidecar};
 use std::alloc::{AllocError, Global};
-use suites::dsc_name;
+use suites::{dsc_name, entry_named, has_architecture, sidecar_name};
 use sums::{Entry, Print};
 
 /// How a .dsc is not the one that its .changes is about.
@@ -127,17 +125,6 @@ pub fn dsc_difference(
     other_file(changes, dsc)
 }
 
-/// The name that a sidecar has by its own fields, `PACKAGE_VERSION_ARCHITECTURE.control`, with the version without its epoch.
-#[tactic(auto, unfolding(suites::specs::Verdict::sidecar_file))]
-fn sidecar_name(alloc: Global, sidecar: &Sidecar) -> Result<String, AllocError>
-    ensures { IfOk result (λ text. string_bytes text ≡ sidecar_file sidecar.now) }
-{
-    let package = sidecar.package();
-    let version = sidecar.version().without_epoch();
-    let architecture = sidecar.architecture();
-    format!(in alloc; "{package}_{version}_{architecture}.control")
-}
-
 /// The name that a sidecar has by its own fields, as a text that is kept.
 pub fn own_name(alloc: Global, sidecar: &Sidecar) -> Result<Text, AllocError>
     ensures { IfOk result (λ own. own ≡ sidecar_file sidecar.now) }
@@ -158,16 +145,6 @@ fn other_sidecar_name(
         return Ok(None);
     }
     Ok(Some(own))
-}
-
-/// Whether an architecture is one of the .changes.
-fn has_architecture(changes: &Changes, architecture: &str) -> bool
-    ensures { result ≡ is_among changes.now.architectures architecture.now }
-{
-    changes
-        .architectures()
-        .iter()
-        .any(|name| architecture == name.as_str())
 }
 
 /// The first difference of a sidecar of this name from those that its .changes may have.

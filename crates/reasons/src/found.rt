@@ -8,12 +8,11 @@ ghost use Rattle.suites.specs.Shelves.{pool};
 ghost use Rattle.suites.specs.Verdict.{by_print, is_missing_file, is_taken, path_of};
 ghost use Rattle.reasons.specs.Named.{foreign_architecture, is_unlisted, listed_part, missing_file, other_component, taken_entry, unlisted_file};
 
-use crate::names::{entry_named, has_suffix, is_package_part, lists};
 use para::Text;
 use records::{Changes, Dsc};
 use rules::{Suite, component_of_section};
 use std::alloc::{AllocError, Global};
-use suites::{Shelves, directory};
+use suites::{Shelves, directory, entry_named, has_suffix, is_package_part, lists};
 use sums::{Entry, Print};
 
 /// Verdict 2: the first architecture of a .changes that the suite does not keep.

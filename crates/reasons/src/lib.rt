@@ -9,7 +9,6 @@ mod differences;
 mod found;
 mod laws;
 mod listing;
-mod names;
 mod naming;
 mod reading;
 mod sidecars;

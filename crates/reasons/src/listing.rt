@@ -6,8 +6,8 @@ ghost use Rattle.suites.specs.Upload.{has_suffix as ends_in};
 ghost use Rattle.suites.specs.Verdict.{is_package_part as is_part};
 ghost use Rattle.reasons.specs.Named.{is_lone, lacks_dsc, listed_changes, lone_file, source_file, surplus_dsc};
 
-use crate::names::{has_joined, has_source, has_suffix, is_package_part, stem};
 use records::Changes;
+use suites::{has_joined, has_source, has_suffix, is_package_part, stem};
 use sums::Entry;
 
 /// The first .changes that a .changes lists.

@@ -10,12 +10,11 @@ use crate::found::{component, foreign_architecture, other_component, pool_path, 
 use crate::listing::{
     lacks_dsc, listed_changes, lone_package, lone_sidecar, source_file, surplus_dsc,
 };
-use crate::names::has_source;
 use para::Text;
 use records::Changes;
 use rules::{Config, Suite, component_of_section};
 use std::alloc::{AllocError, Global};
-use suites::Shelves;
+use suites::{Shelves, has_source};
 use sums::Entry;
 
 /// The suite that claims the distribution of a .changes.

@@ -5,14 +5,7 @@ ghost use Rattle.suites.specs.Verdict.{is_same_package};
 ghost use Rattle.reasons.specs.Named.{twins};
 
 use records::Sidecar;
-
-/// Whether two sidecars are of the same package and architecture.
-#[tactic(auto, unfolding(suites::specs::Verdict::is_same_package))]
-fn is_same_package(a: &Sidecar, b: &Sidecar) -> bool
-    ensures { result ≡ is_same_package a.now b.now }
-{
-    a.package() == b.package() && a.architecture() == b.architecture()
-}
+use suites::is_same_package;
 
 /// The first of the others that has the package and the architecture of a sidecar.
 fn twin<'a>(sidecar: &Sidecar, others: &'a [Sidecar]) -> Option<&'a Sidecar>

@@ -17,5 +17,5 @@ pub use fault::RecordFault;
 pub use field_name::FieldName;
 pub use laws::{changes_are_read, dscs_are_read, sidecars_are_read};
 pub use names::{is_architecture, is_package, is_plain};
-pub use parts::all_differ;
+pub use parts::{all_differ, texts_of};
 pub use sidecar::Sidecar;

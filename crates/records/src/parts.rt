@@ -95,8 +95,8 @@ pub fn all_differ(alloc: Global, words: &[&str]) -> Result<bool, AllocError>
     Ok(true)
 }
 
-/// Copies of the words.
-fn texts_of(alloc: Global, words: &[&str]) -> Result<Listed<Text>, AllocError>
+/// Copies of the words, in their order. It is refused for want of memory alone.
+pub fn texts_of(alloc: Global, words: &[&str]) -> Result<Listed<Text>, AllocError>
     ensures { IfOk result (λ texts. texts ≡ map (λ word. word.now) words.now) }
 {
     let mut texts = Vec::new(alloc);

@@ -1,14 +1,12 @@
 //! Lists of names.
 
-ghost use Rattle.std.specs.Prelude.{◌≡◌, ◌||◌, IfOk, OnOk, bytes_eq, map, position, ℕ, List};
+ghost use Rattle.std.specs.Prelude.{◌≡◌, ◌||◌, bytes_eq, map, position, ℕ, List};
 ghost use Rattle.std.specs.List.{list_all, list_any};
 ghost use Rattle.records.specs.Names.{is_plain_name};
 ghost use Rattle.rules.specs.Paragraphs.{is_listed_architecture};
 
 use crate::without_memory::Spelled;
-use para::{Listed, Text};
 use records::{is_architecture, is_plain};
-use std::alloc::{AllocError, Global};
 
 /// Whether the name is one of the names.
 pub fn is_one_of<N: Spelled>(names: &[N], name: &str) -> bool
@@ -44,15 +42,4 @@ pub fn are_listed_architectures(words: &[&str]) -> bool
     ensures { result ≡ list_all is_listed_architecture (map (λ word. word.now) words.now) }
 {
     words.iter().all(|word| is_listed_architecture(word))
-}
-
-/// Copies of the words.
-pub fn texts_of(alloc: Global, words: &[&str]) -> Result<Listed<Text>, AllocError>
-    ensures { IfOk result (λ texts. texts ≡ map (λ word. word.now) words.now) }
-{
-    let mut texts = Vec::new(alloc);
-    for word in words {
-        texts.push(Text::new(alloc, word)?)?;
-    }
-    Ok(Listed::from_vec(texts))
 }

@@ -8,11 +8,11 @@ ghost use Rattle.rules.specs.Uploaders.{rules_in};
 
 use crate::days::{Days, days_in};
 use crate::fault::ConfigFault;
-use crate::names::texts_of;
 use crate::size::{Mebibytes, mebibytes_in};
 use crate::suite::Suite;
 use crate::uploader::{Rule, rules_of};
 use para::{Field, Listed, Paragraph, Text, fold};
+use records::texts_of;
 use std::alloc::{AllocError, Global};
 
 /// The first line of the field, if it is there.

@@ -1,9 +1,8 @@
 //! The plan of a copy.
 
-ghost use Rattle.std.specs.Prelude.{◌≡◌, ◌<◌, ◌&&◌, [], ◌∷◌, ◌++◌, IfOk, cond, filter, length, map};
+ghost use Rattle.std.specs.Prelude.{◌≡◌, ◌<◌, [], ◌∷◌, ◌++◌, IfOk, cond, filter, length, map};
 ghost use Rattle.std.specs.FinMap.{entries, get};
 ghost use Rattle.std.specs.List.{flat_map};
-ghost use Rattle.rules.specs.Suites.{keeps_architecture, keeps_component};
 ghost use Rattle.rules.specs.declared.verdict.Verdict.TheVariants as verdict;
 ghost use Rattle.suites.specs.Plan.{IsStep, after_copy, is_copied as copies, kept_by, shelves_of};
 ghost use Rattle.suites.specs.Told.{AreTold};
@@ -85,15 +84,6 @@ pub fn plan_copy(
     plan_admission(alloc, shelves, to, items)
 }
 
-/// Whether the target keeps an item, by its component and its architecture.
-fn is_kept(target: &Suite, item: &Item) -> bool
-    ensures { result ≡ (keeps_component target.now item.now.component && keeps_architecture target.now item.now.architecture) }
-{
-    let has_component = target.keeps_component(item.component.as_str());
-    let has_architecture = target.keeps_architecture(item.architecture.as_str());
-    has_component && has_architecture
-}
-
 /// Adds a copy of the item on a shelf, if the target keeps it.
 fn push_kept(
     alloc: Global,
@@ -106,8 +96,8 @@ fn push_kept(
 {
     match shelves.get(key) {
         Some(item) => {
-            let is_kept = is_kept(target, item);
-            push_item_if(alloc, items, is_kept, item)
+            let keeps = target.keeps(item.component.as_str(), item.architecture.as_str());
+            push_item_if(alloc, items, keeps, item)
         }
         None => Ok(()),
     }

@@ -11,7 +11,7 @@ use records::Changes;
 use sums::Entry;
 
 /// A name without its ending.
-fn stem<'a>(name: &'a str, ending: &str) -> &'a [u8]
+pub fn stem<'a>(name: &'a str, ending: &str) -> &'a [u8]
     ensures { result.now ≡ stem_of ending.now name.now }
 {
     let bytes = name.as_bytes();
@@ -26,7 +26,7 @@ fn is_joined(name: &str, front: &[u8], ending: &str) -> bool
 }
 
 /// Whether a listed name is this front and then the ending.
-fn has_joined(entries: &[Entry], front: &[u8], ending: &str) -> bool
+pub fn has_joined(entries: &[Entry], front: &[u8], ending: &str) -> bool
     ensures { result ≡ is_among (stems ending.now entries.now) front.now }
 {
     entries
@@ -72,7 +72,7 @@ pub fn is_package_part(name: &str) -> bool
 
 /// Whether `source` is among the architectures of a .changes.
 #[tactic(auto, unfolding(crate::specs::Verdict::has_source))]
-fn has_source(changes: &Changes) -> bool
+pub fn has_source(changes: &Changes) -> bool
     ensures { result ≡ has_source changes.now }
 {
     has_architecture(changes, "source")

@@ -64,7 +64,7 @@ pub fn differs_from_dsc(
 /// The name that a sidecar has by its own fields, `PACKAGE_VERSION_ARCHITECTURE.control`, with the version without its
 /// epoch.
 #[tactic(auto, unfolding(crate::specs::Verdict::sidecar_file))]
-fn sidecar_name(alloc: Global, sidecar: &Sidecar) -> Result<String, AllocError>
+pub fn sidecar_name(alloc: Global, sidecar: &Sidecar) -> Result<String, AllocError>
     ensures { IfOk result (λ text. string_bytes text ≡ sidecar_file sidecar.now) }
 {
     let package = sidecar.package();

@@ -4,8 +4,6 @@ ghost use Rattle.std.specs.Prelude.{◌≡◌, true, false, ◌∷◌, [], map, 
 ghost use Rattle.std.specs.FinMap.{get};
 ghost use Rattle.std.specs.List.{list_any};
 ghost use Rattle.std.specs.Option.{option_map_or};
-ghost use Rattle.std.specs.Result.{result_ok};
-ghost use Rattle.records.specs.Records.{dsc_within as dsc_of_text, sidecar_in as sidecar_of_text};
 ghost use Rattle.rules.specs.Judgement.{component as component_of_upload};
 ghost use Rattle.rules.specs.Verdicts.{first_row};
 ghost use Rattle.suites.specs.Judging.{IsJudged, IsSource, IsSourcePart, IsBinaryPart, AreBinaryParts, AreBinaries, is_bad_dsc, is_bad_sidecar, part_of};
@@ -15,10 +13,11 @@ ghost use Rattle.suites.specs.Verdict.{by_print, path_of, has_bad_listing as has
 use crate::items::{BinaryPart, SourcePart};
 use crate::listing::has_bad_listing;
 use crate::paths::pool_path;
+use crate::readings::{dsc_within, sidecar_in};
 use crate::shelves::Shelves;
 use crate::source::{differs_from_dsc, differs_from_sidecar, is_same_package};
 use crate::upload::{Part, Upload, entry_named, has_suffix};
-use records::{Changes, Dsc, RecordFault, Sidecar};
+use records::Changes;
 use rules::Verdict;
 use std::alloc::{AllocError, Global};
 use sums::{Entry, Print};
@@ -44,28 +43,6 @@ impl<'a> Drop for Parts<'a> {
 pub enum Judged<'a> {
     Accepted(Parts<'a>),
     Refused(Verdict),
-}
-
-/// The .dsc that a text is, or nothing if it is not a .dsc of files of at most `most` bytes.
-fn dsc_within(alloc: Global, text: &[u8], most: u64) -> Result<Option<Dsc>, AllocError>
-    ensures { IfOk result (λ found. found ≡ result_ok (dsc_of_text most text.now)) }
-{
-    match Dsc::read_within(alloc, text, most) {
-        Ok(dsc) => Ok(Some(dsc)),
-        Err(RecordFault::OutOfMemory) => Err(AllocError),
-        Err(_) => Ok(None),
-    }
-}
-
-/// The sidecar that a text is, or nothing if it is not a sidecar.
-fn sidecar_in(alloc: Global, text: &[u8]) -> Result<Option<Sidecar>, AllocError>
-    ensures { IfOk result (λ found. found ≡ result_ok (sidecar_of_text text.now)) }
-{
-    match Sidecar::read(alloc, text) {
-        Ok(sidecar) => Ok(Some(sidecar)),
-        Err(RecordFault::OutOfMemory) => Err(AllocError),
-        Err(_) => Ok(None),
-    }
 }
 
 /// The .dsc of the upload, if this part is the one that the .changes is about and lists files of at most `most` bytes.

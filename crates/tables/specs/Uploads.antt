@@ -9,6 +9,10 @@ use Rattle.tables.specs.declared.rows.UploadRow.{UploadRow}
 abbrev pub is_upload : List ℕ → Print → UploadRow → Bool
 is_upload name print x = bytes_eq x.name name && same_print x.print print
 
+-- the name and the print, by which an upload is known
+abbrev pub sign_in : UploadRow → List ℕ × Print
+sign_in x = (x.name, x.print)
+
 -- the upload has a place in the order of judging
 abbrev pub is_judged : UploadRow → Bool
 is_judged x = is_some x.place

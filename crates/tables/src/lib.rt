@@ -28,7 +28,7 @@ pub mod files;
 pub mod items;
 pub mod laws;
 pub mod meta;
-mod number;
+pub mod number;
 pub mod pieces;
 pub mod probe;
 mod read;

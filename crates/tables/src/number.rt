@@ -13,7 +13,7 @@ use std::marker::Model;
 
 /// A number that a table can hold, one below 2^63.
 #[derive(Drop)]
-pub(crate) struct Number {
+pub struct Number {
     n: i64,
 }
 
@@ -26,7 +26,7 @@ impl Model for Number {
 }
 
 /// The number, refused as too big if a table cannot hold it.
-pub(crate) fn whole(n: u64) -> Result<Number, Error>
+pub fn whole(n: u64) -> Result<Number, Error>
     ensures { IfOk result (λ w. w ≡ n) }
 {
     match i64::try_from(n) {
@@ -45,7 +45,7 @@ impl<'a> ToSql<'a> for Number {
 
 /// The number of a row, as its id, its rowid and the references to it hold it: counted from the least integer of SQLite on.
 #[derive(Drop)]
-pub(crate) struct Id {
+pub struct Id {
     n: i64,
 }
 
@@ -58,7 +58,7 @@ impl Model for Id {
 }
 
 /// The number as that of a row. Each number is the number of a row.
-pub(crate) fn as_id(n: u64) -> Id
+pub fn as_id(n: u64) -> Id
     ensures { result ≡ n }
 {
     Id {

@@ -23,7 +23,7 @@ use Rattle.tables.specs.declared.rows.BodyRow.{BodyRow}
 use Rattle.tables.specs.declared.rows.Piece.{Piece}
 use Rattle.tables.specs.declared.rows.UploadRow.{UploadRow}
 use Rattle.tables.specs.declared.rows.Want.{Want}
-use Rattle.tables_meaning.specs.Kept.{Request, arrivals_in, is_placed, pieces_among, request_in, request_of, sign_in, want_order}
+use Rattle.tables_meaning.specs.Kept.{Request, arrivals_in, is_placed, pieces_among, print_in, request_in, request_of, sign_in, want_order}
 use Rattle.tables_matching.specs.Rows.{listed_row, want_row}
 use Rattle.tables_audit.specs.declared.uploads.arrived.Arrived.{Arrived}
 use Rattle.tables_audit.specs.declared.uploads.awaited.Awaited.{Awaited}
@@ -63,7 +63,7 @@ printed a = (a.arrival.now, a.print)
 
 -- the print of the body of a number
 unfoldable pub print_among : Numbered BodyRow → ℕ → Option Print
-print_among bodies id = option_and_then (λ x. x.1.print) (find (λ x. nat_eq x.0 id) bodies)
+print_among bodies id = print_in bodies id
 
 -- an arrival, with the print of its body
 abbrev pub with_print : Arrived → ArrivalRow × Option Print

@@ -8,14 +8,14 @@ mod paths;
 mod source;
 
 ghost use Rattle.std.specs.Prelude.{◌≡◌, ◌↔◌, IfOk, IsTrue};
-ghost use Rattle.suites.specs.Told.{AreTold, IsTold, is_kept_by};
+ghost use Rattle.suites.specs.Told.{AreTold, IsTold};
 ghost use Rattle.tables_audit.specs.Columns.{StandsTold};
 
 use crate::as_recorded::binary::is_binary;
 use crate::as_recorded::source::is_source;
 use rules::{Config, Suite};
 use std::alloc::{AllocError, Global};
-use suites::{Item, Kind, ShelfKey, Shelves};
+use suites::{Item, Kind, ShelfKey, Shelves, is_kept_by};
 
 /// Whether an item is as its paragraph says.
 fn is_told(alloc: Global, item: &Item) -> Result<bool, AllocError>
@@ -27,17 +27,6 @@ fn is_told(alloc: Global, item: &Item) -> Result<bool, AllocError>
     }
 }
 
-/// Whether the suite of a shelf keeps the component and the architecture of an item.
-#[tactic(auto, unfolding(suites::specs::Told::is_kept_by))]
-fn is_kept(suites: &[Suite], key: &ShelfKey, item: &Item) -> bool
-    ensures { result ≡ is_kept_by suites.now (key.now, item.now) }
-{
-    let Some(suite) = suites.get(key.suite) else {
-        return false;
-    };
-    suite.keeps(item.component.as_str(), item.architecture.as_str())
-}
-
 /// Whether an item is as its paragraph says, on a shelf of a suite that keeps it.
 fn stands_told(
     alloc: Global,
@@ -47,7 +36,7 @@ fn stands_told(
 ) -> Result<bool, AllocError>
     ensures { IfOk result (λ told. IsTrue told ↔ StandsTold suites.now (key.now, item.now)) }
 {
-    if !is_kept(suites, key, item) {
+    if !is_kept_by(suites, key, item) {
         return Ok(false);
     }
     is_told(alloc, item)

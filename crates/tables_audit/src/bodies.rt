@@ -2,9 +2,7 @@
 //!
 //! A body has to be that of an arrival, or that of a file of the pool.
 
-ghost use Rattle.std.specs.Prelude.{◌≡◌, ◌↔◌, ◌≤◌, ℕ, All, filter, length, map, min, nat_eq, IsTrue, IfOk};
-ghost use Rattle.std.specs.List.{list_any};
-ghost use Rattle.std.specs.List.Sorted.{IsNonDecreasing};
+ghost use Rattle.std.specs.Prelude.{◌≡◌, ◌↔◌, ◌≤◌, ℕ, All, filter, length, map, min, IsTrue, IfOk};
 ghost use Rattle.tables.specs.Pieces.{is_of};
 ghost use Rattle.tables.specs.Rows.{rows_of};
 ghost use Rattle.tables_read.specs.All.{tables_with};
@@ -17,6 +15,7 @@ use keep::PIECE_SIZE;
 use std::alloc::{AllocError, Global};
 use sums::{Print, Printer};
 use tables::rows::{ArrivalRow, BodyRow, File, Piece};
+use tables_meaning::is_among;
 use tables_read::AllRows;
 
 /// How many bytes the pieces of a body have, or the most that can be counted.
@@ -127,14 +126,6 @@ fn used_in(
     numbers.extend_from_slice(&filed)?;
     numbers.sort_unstable();
     Ok(numbers)
-}
-
-/// Whether a number is among these, which stand in rising order.
-fn is_among(numbers: &[u64], id: u64) -> bool
-    requires { IsNonDecreasing numbers.now }
-    ensures { result ≡ list_any (λ n. nat_eq n id) numbers.now }
-{
-    numbers.binary_search(&id).is_ok()
 }
 
 /// Whether a body is whole, in pieces, with the print of its bytes, and has arrived under some name or is that of a file.

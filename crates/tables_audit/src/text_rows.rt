@@ -20,14 +20,14 @@ use sums::print_of;
 use tables::rows::TextRow;
 use tables_matching::is_text_row;
 use tables_read::AllRows;
-use texts::{Index, Place, index_path, listed_text, path_in, places_of, release};
+use texts::{Index, IndexPlace, index_path, listed_text, path_in, places_of, release};
 
 /// The index at a place of the suite at the position.
 fn placed_entry(
     alloc: Global,
     shelves: &Shelves,
     position: usize,
-    place: &Place,
+    place: &IndexPlace,
 ) -> Result<TextRow, AllocError>
     ensures { IfOk result (λ x. text_in x ≡ place_entry shelves.now position place.now) }
 {
@@ -46,7 +46,7 @@ fn placed_entries(
     alloc: Global,
     shelves: &Shelves,
     position: usize,
-    places: &[Place],
+    places: &[IndexPlace],
 ) -> Result<Vec<TextRow>, AllocError>
     ensures { IfOk result (λ entries. map text_in entries.items ≡ map (place_entry shelves.now position) places.now) }
 {

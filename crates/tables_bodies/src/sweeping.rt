@@ -18,6 +18,7 @@ use std::alloc::{AllocError, Global};
 use tables::arrivals::arrived_bodies_inside;
 use tables::bodies::body_numbers_inside;
 use tables::files::filed_bodies_inside;
+use tables_meaning::is_among;
 
 /// These numbers, and the others after them.
 fn with_others(mut numbers: Vec<u64>, others: &[u64]) -> Result<Vec<u64>, AllocError>
@@ -34,14 +35,6 @@ fn in_rising_order(mut numbers: Vec<u64>) -> Vec<u64>
 {
     numbers.sort_unstable();
     numbers
-}
-
-/// Whether a number is among these, which stand in rising order.
-fn is_among(numbers: &[u64], id: u64) -> bool
-    requires { IsNonDecreasing numbers.now }
-    ensures { result ≡ list_any (λ n. nat_eq n id) numbers.now }
-{
-    numbers.binary_search(&id).is_ok()
 }
 
 /// The numbers that are not among others, which stand in rising order.

@@ -18,6 +18,7 @@ use Rattle.sums.specs.declared.print.Print.{Print}
 use Rattle.tables.specs.Arrivals.{is_arrival}
 use Rattle.tables.specs.Items.{is_item}
 use Rattle.tables.specs.Rows.{Holds, Tables, arrival_cells, body_cells, file_cells, full_body, full_upload, id_cell, item_cells, piece_cells, ref_cells, stored, upload_cells, want_cells, whole}
+use Rattle.tables.specs.Uploads.{sign_in}
 use Rattle.tables.specs.Others.{IsArchiveSchema, Others, others_in, with_others}
 use Rattle.tables.specs.Schema.{arrivals_table, bodies_table, files_table, items_table, pieces_table, refers, refs_table, uploads_table, wants_table}
 use Rattle.tables.specs.declared.rows.ArrivalRow.{ArrivalRow}
@@ -25,7 +26,7 @@ use Rattle.tables.specs.declared.rows.BodyRow.{BodyRow}
 use Rattle.tables.specs.declared.rows.File.{File}
 use Rattle.tables.specs.declared.rows.ItemRow.{ItemRow}
 use Rattle.tables.specs.declared.rows.UploadRow.{UploadRow}
-use Rattle.tables_read.specs.All.{AreConstrained, name_and_print}
+use Rattle.tables_read.specs.All.{AreConstrained}
 use Rattle.tables_read.specs.RowKeys.{AreSame, HasNoClash, HasParents, apart, guarded, no_clash_read, owned, parents_read, referred, rows_apart}
 
 -- ---- what the schema has
@@ -120,7 +121,7 @@ same_arrivals x y same =
     let parts = and_parts _ _ same in
     ((ap Text (sym (same_bytes _ _ parts.0)), refl), ((ap id_cell (sym (eqb-true _ _ parts.1)), refl), tt))
 
-same_uploads : (x y : ℕ × UploadRow) → name_and_print x.1 ≡ name_and_print y.1 → AreSame (2 ∷ 3 ∷ 4 ∷ 5 ∷ 6 ∷ []) (stored upload_cells x) (stored upload_cells y)
+same_uploads : (x y : ℕ × UploadRow) → sign_in x.1 ≡ sign_in y.1 → AreSame (2 ∷ 3 ∷ 4 ∷ 5 ∷ 6 ∷ []) (stored upload_cells x) (stored upload_cells y)
 same_uploads x y same =
     let name : x.1.name ≡ y.1.name = ap (λ (k : List ℕ × Print). k.0) same in
     let print : x.1.print ≡ y.1.print = ap (λ (k : List ℕ × Print). k.1) same in
@@ -168,7 +169,7 @@ module _ (db : Database) (t : Tables) (sound : IsDatabase db) (holds : Holds db 
         rows_apart arrival_cells (2 ∷ 3 ∷ []) (db.trees 5) t.arrivals holds.rows.arrivals (arrivals_clash db holds.schema sound) (λ a b. is_arrival a.name a.body b ≡ false)
         (λ x y no. false_from_ne_true _ (λ same. no (same_arrivals x y same)));
     uploads_apart =
-        rows_apart upload_cells (2 ∷ 3 ∷ 4 ∷ 5 ∷ 6 ∷ []) (map full_upload (db.trees 7)) t.uploads holds.rows.uploads uploads_named (λ u v. name_and_print u ≢ name_and_print v) (λ x y no same. no (same_uploads x y same));
+        rows_apart upload_cells (2 ∷ 3 ∷ 4 ∷ 5 ∷ 6 ∷ []) (map full_upload (db.trees 7)) t.uploads holds.rows.uploads uploads_named (λ u v. sign_in u ≢ sign_in v) (λ x y no same. no (same_uploads x y same));
     places_apart =
         rows_apart upload_cells (7 ∷ []) (map full_upload (db.trees 7)) t.uploads holds.rows.uploads uploads_placed (λ u v. u.place ≢ None → u.place ≢ v.place) (λ x y no some same. no (same_places x y some same));
     wants_owned =

@@ -2,8 +2,6 @@
 
 ghost use Rattle.std.specs.Prelude.{◌≡◌, IfOk, map};
 ghost use Rattle.std.specs.List.{filter_map};
-ghost use Rattle.std.specs.Result.{result_ok};
-ghost use Rattle.records.specs.Records.{changes_in as record_in};
 ghost use Rattle.tables_audit.specs.Uploads.{awaited_view, changes_awaited, found_awaited, has_judgement, printed};
 
 use crate::bodies::bytes_of;
@@ -11,8 +9,9 @@ use crate::pieces::Pieces;
 use crate::uploads::arrived::Arrived;
 use crate::uploads::lookups::Verdicts;
 use crate::uploads::signs::sign_of_arrived;
-use records::{Changes, RecordFault};
+use records::Changes;
 use std::alloc::{AllocError, Global};
+use suites::changes_in;
 use sums::{Print, is_changes_name};
 use tables::rows::ArrivalRow;
 
@@ -22,17 +21,6 @@ pub struct Awaited<'a> {
     pub arrival: &'a ArrivalRow,
     pub print: Print,
     pub changes: Changes,
-}
-
-/// The record that a text is, or nothing if the text is not one.
-fn changes_in(alloc: Global, text: &[u8]) -> Result<Option<Changes>, AllocError>
-    ensures { IfOk result (λ changes. changes ≡ result_ok (record_in text.now)) }
-{
-    match Changes::read(alloc, text) {
-        Ok(changes) => Ok(Some(changes)),
-        Err(RecordFault::OutOfMemory) => Err(AllocError),
-        Err(_) => Ok(None),
-    }
 }
 
 /// Whether what arrived has a verdict.
