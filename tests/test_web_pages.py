@@ -212,7 +212,7 @@ class Exported(Tree):
 
 
 class Waits(Tree):
-    """The page of uploads when several wait: for each what it lacks, in the order in which they came."""
+    """The page of uploads when several wait, in the order of judging: for each what it lacks, by name."""
 
     CONF = "Codename: box\nArchitectures: amd64 source\nComponents: main\nKeepDays: 2\n"
 
@@ -243,7 +243,7 @@ class Waits(Tree):
         zoo = self.wait("zoo", day, {"zoo_1.0-1_amd64.": "new_1.0-1_amd64."})
         ant = self.wait("ant", day)
         mid = self.wait("mid", day)
-        lacks = [(zoo[0], "new_1.0-1_amd64.deb new_1.0-1_amd64.control"), (ant[0], f"{ant[1]} {ant[2]}"), (mid[0], mid[2])]
+        lacks = [(ant[0], f"{ant[2]} {ant[1]}"), (mid[0], mid[2]), (zoo[0], "new_1.0-1_amd64.control new_1.0-1_amd64.deb")]
         self.assertEqual(self.lacking(day), lacks)
         # Other contents are not what is listed, and stand beside it.
         for body in ("other", "deb of mid", "deb of zoo"):
@@ -251,11 +251,11 @@ class Waits(Tree):
         self.put(ant[2], "control of ant", day)
         for body in ("other", "control of mid", "another"):
             self.put(mid[2], body, day)
-        self.assertEqual(self.lacking(2 * day - 1), [lacks[0], (ant[0], ant[1]), (mid[0], "")])
-        self.assertEqual(self.lacking(2 * day), [lacks[0], (ant[0], ant[1]), (mid[0], mid[1])])
+        self.assertEqual(self.lacking(2 * day - 1), [(ant[0], ant[1]), (mid[0], ""), lacks[2]])
+        self.assertEqual(self.lacking(2 * day), [(ant[0], ant[1]), (mid[0], mid[1]), lacks[2]])
         self.put(ant[1], "deb of ant", 2 * day)
-        self.assertEqual(self.lacking(2 * day), [lacks[0], (ant[0], ""), (mid[0], mid[1])])
-        self.assertEqual(self.lacking(3 * day - 1)[1:], [(ant[0], ""), (mid[0], mid[1])])
+        self.assertEqual(self.lacking(2 * day), [(ant[0], ""), (mid[0], mid[1]), lacks[2]])
+        self.assertEqual(self.lacking(3 * day - 1)[:2], [(ant[0], ""), (mid[0], mid[1])])
         self.assertEqual(self.lacking(3 * day), [])
 
 

@@ -7,9 +7,7 @@ ghost use Rattle.queue.specs.Steps.{Reads};
 
 use crate::fault::Stop;
 use crate::print::{print_line, print_lines};
-use inquiry::{
-    Lack, WaitingUpload, arrived_as_waiting, lacks_of, read_changes, read_upload, waiting_uploads,
-};
+use inquiry::{came_instead, read_upload};
 use keep::{ArrivedFile, Counting, Judgement, Keeper, LATEST, Waiting};
 use output::explaining::{Answer, answer_json, answer_lines, waiting_json, waiting_lines};
 use queue::{Archive, Fault};
@@ -41,7 +39,7 @@ impl<'n> Asked<'n> {
 struct Course {
     arrived: Vec<ArrivedFile>,
     judged: Vec<Judgement>,
-    waiting: Vec<WaitingUpload>,
+    waiting: Vec<Waiting>,
     counting: Counting,
 }
 
@@ -51,18 +49,6 @@ fn is_asked(asked: Asked<'_>, name: &str) -> bool {
         Some(wanted) => wanted == name,
         None => true,
     }
-}
-
-/// The uploads that wait, by their names and prints.
-fn found_waiting(
-    alloc: Global,
-    arrived: &[ArrivedFile],
-    judged: &[Judgement],
-    counting: Counting,
-    waiting: &[Waiting],
-) -> Result<Vec<WaitingUpload>, AllocError> {
-    let few = arrived_as_waiting(alloc, arrived, waiting)?;
-    waiting_uploads(alloc, &few, judged, counting)
 }
 
 /// What arrived, was judged and waits, and what counts at a moment.
@@ -76,8 +62,7 @@ fn course_of<K: Keeper>(alloc: Global, archive: &mut Archive<K>, at: u64) -> Res
     let counting = Counting::new(archive.keeper.config(), at);
     let arrived = archive.keeper.arrivals(alloc)?;
     let judged = archive.keeper.verdicts(alloc)?;
-    let named = archive.keeper.waiting(alloc, at)?;
-    let waiting = found_waiting(alloc, &arrived, &judged, counting, &named)?;
+    let waiting = archive.keeper.waiting(alloc, at)?;
     Ok(Course {
         arrived,
         judged,
@@ -86,58 +71,36 @@ fn course_of<K: Keeper>(alloc: Global, archive: &mut Archive<K>, at: u64) -> Res
     })
 }
 
-/// What a waiting upload lacks. There is nothing to say if its .changes is gone.
-fn lacks_in<K: Keeper>(
-    alloc: Global,
-    archive: &mut Archive<K>,
-    course: &Course,
-    upload: &WaitingUpload,
-) -> Result<Option<Vec<Lack>>, Fault>
-    ensures reads { Reads K.Keeper archive.old.keeper archive.new.keeper }
-{
-    let name = upload.name.as_str();
-    let Some(changes) = read_changes(alloc, &mut archive.keeper, name, &upload.print)? else {
-        return Ok(None);
-    };
-    let entries = changes.entries();
-    Ok(Some(lacks_of(alloc, &course.arrived, course.counting, entries)?))
-}
-
-/// Prints a waiting upload, and what it lacks.
+/// Prints a waiting upload, what it lacks, and what came in its place.
 fn print_waiting<'a, W: Write>(
     alloc: Global,
-    upload: &WaitingUpload,
-    lacks: &[Lack],
+    course: &Course,
+    upload: &Waiting,
     json: bool,
     out: &mut W,
 ) -> Result<(), Stop<'a>> {
+    let lacks = upload.lacks.as_slice();
+    let came = came_instead(alloc, &course.arrived, course.counting, lacks)?;
     if json {
-        print_line(waiting_json(alloc, upload, lacks)?.as_str(), out)?;
+        print_line(waiting_json(alloc, upload, &came)?.as_str(), out)?;
     } else {
-        print_lines(alloc, &waiting_lines(alloc, upload, lacks)?, out)?;
+        print_lines(alloc, &waiting_lines(alloc, upload, &came)?, out)?;
     }
     Ok(())
 }
 
 /// Prints each upload that waits and is asked for, and says whether there is one.
-#[tactic(auto, using(keep::proofs::ReadLemmas::reads_none, keep::proofs::ReadLemmas::reads_more))]
-fn print_all_waiting<'a, K: Keeper, W: Write>(
+fn print_all_waiting<'a, W: Write>(
     alloc: Global,
-    archive: &mut Archive<K>,
     course: &Course,
     asked: Asked<'_>,
     out: &mut W,
-) -> Result<bool, Stop<'a>>
-    ensures reads { Reads K.Keeper archive.old.keeper archive.new.keeper }
-{
+) -> Result<bool, Stop<'a>> {
     let mut has_printed = false;
     for upload in &course.waiting {
-        if !is_asked(asked, upload.name.as_str()) {
-            continue;
-        }
-        if let Some(lacks) = lacks_in(alloc, archive, course, upload)? {
+        if is_asked(asked, upload.name.as_str()) {
             has_printed = true;
-            print_waiting(alloc, upload, &lacks, asked.json, out)?;
+            print_waiting(alloc, course, upload, asked.json, out)?;
         }
     }
     Ok(has_printed)
@@ -248,7 +211,7 @@ pub fn tell<'a, K: Keeper, W: Write>(
     ensures reads { Reads K.Keeper archive.old.keeper archive.new.keeper }
 {
     let course = course_of(alloc, archive, asked.at)?;
-    let has_waiting = print_all_waiting(alloc, archive, &course, asked, out)?;
+    let has_waiting = print_all_waiting(alloc, &course, asked, out)?;
     let Some(name) = asked.name else {
         return Ok(());
     };

@@ -23,7 +23,6 @@
 mod asked;
 mod course;
 mod fault;
-mod lacking;
 mod making;
 mod mending;
 mod placing;

@@ -9,17 +9,19 @@ use Rattle.std.proofs.lemmas.List.Elements.{Contains-append_right}
 use Rattle.records.specs.Records.{changes_in, changes_within}
 use Rattle.records.specs.Values.{ChangesValue}
 use Rattle.records.specs.declared.fault.RecordFault.{RecordFault}
+use mathlib.Core.Path.{fun_ext}
 use Rattle.records.proofs.RecordRead.{read_more_changes}
 use Rattle.rules.specs.Sizes.{largest}
 use Rattle.rules.specs.Values.{ConfigValue}
-use Rattle.keep.specs.Book.{Book, at_moment, ended, has_arrival, latest, span, text_at, unjudged, waiting_list, with_delivery}
+use Rattle.keep.specs.Book.{Book, Candidate, at_moment, ended, has_arrival, latest, missing, span, text_at, unjudged, waiting_list, waiting_of, with_delivery}
+use Rattle.keep.proofs.Lacks.{lacks_count}
 use Rattle.keep.specs.Keeping.{HasBodies, IsDeliverable, MayAnswer, NoCollision}
 use Rattle.keep.specs.declared.arrival.Arrival.{Arrival}
 use Rattle.keep.specs.declared.change.Judgement.{Judgement}
 use Rattle.keep.specs.declared.change.Waiting.{Waiting}
 use Rattle.keep.specs.declared.fault.KeepFault.{KeepFault}
 use Rattle.keep.specs.declared.fault.KeepFault.TheVariants as keep_faults
-use Rattle.history.specs.Answers.{IsAnswer, IsFaithful, IsKept, IsStep, answer, delivery_answer, found_at, is_refused, line_on_waiting, report_line, waiting_line}
+use Rattle.history.specs.Answers.{IsAnswer, IsFaithful, IsKept, IsStep, answer, delivery_answer, found_at, is_refused, line_on_missing, line_on_waiting, report_line, waiting_line}
 use Rattle.history.specs.Archives.{Stands, book_of, book_from}
 use Rattle.history.specs.Deliveries.{IsKeepers, delivery_fault, fault_of_read, most_named, or_else, record_fault}
 use Rattle.history.specs.Fault.{of_keeper}
@@ -251,14 +253,22 @@ pub free_waiting : (h : History) (moment : ℕ) → moment ≤ latest → is_ref
 unfolding is_refused
 free_waiting h moment in_time = le-ltb latest moment in_time
 
-waiting_lines : (book : Book) → map line_on_waiting (waiting_list book) ≡ map (waiting_line book.arrivals) (unjudged book)
-unfolding waiting_list waiting_line
-waiting_lines book = map-map _ _ (unjudged book)
+-- the line on an upload that waits is that of its missing files
+line_is : (all now : List Arrival) (c : Candidate) → line_on_waiting (waiting_of all now c) ≡ waiting_line now c
+unfolding waiting_line missing
+line_is all now c = ap (λ count. line_on_missing count c.name) (lacks_count all now c.changes.entries)
+
+waiting_lines : (moment : ℕ) (book : Book)
+    → map line_on_waiting (waiting_list moment book) ≡ map (waiting_line (at_moment moment book).arrivals) (unjudged (at_moment moment book))
+unfolding waiting_list
+waiting_lines moment book =
+    map-map _ _ (unjudged (at_moment moment book))
+    ∙ ap (λ line. map line (unjudged (at_moment moment book))) (fun_ext (line_is book.arrivals (at_moment moment book).arrivals))
 
 -- the waiting uploads, if what the keeper says holds for all bodies without collision
 pub waiting_step : (may_fail : Bool) (h : History) (moment : ℕ) (is_open : Type 0) (old new : Book) (waiting : List Waiting) (lines : List (List ℕ))
     → Stands old h → IsFaithful h (WaitingList moment ∷ []) → moment ≤ latest
-    → ((bodies : List (List ℕ)) → NoCollision bodies → HasBodies bodies old → waiting ≡ waiting_list (at_moment moment old))
+    → ((bodies : List (List ℕ)) → NoCollision bodies → HasBodies bodies old → waiting ≡ waiting_list moment old)
     → lines ≡ map line_on_waiting waiting → new ≡ old
     → IsStep may_fail h (WaitingList moment) (Ok (Lines lines)) is_open new
 unfolding answer book_of book_from at_moment counting
@@ -267,8 +277,8 @@ waiting_step may_fail h moment is_open old new waiting lines stands faithful in_
     let bodies = [] ∷ faithful.bodies in
     let have : HasBodies bodies old = subst (HasBodies bodies) (sym stands) (known h calls faithful) in
     let told_lines : lines ≡ map (waiting_line (counting h.opening h.steps moment)) (waiting_after h.opening h.steps moment) =
-    are ∙ ap (map line_on_waiting) (told bodies (apart_with_empty faithful.bodies faithful.apart) have ∙ ap (λ b. waiting_list (at_moment moment b)) stands)
-    ∙ waiting_lines (at_moment moment (book_of h)) ∙ ap (map (waiting_line (counting h.opening h.steps moment))) (unjudged_faithful h calls faithful moment) in
+    are ∙ ap (map line_on_waiting) (told bodies (apart_with_empty faithful.bodies faithful.apart) have ∙ ap (waiting_list moment) stands)
+    ∙ waiting_lines moment (book_of h) ∙ ap (map (waiting_line (counting h.opening h.steps moment))) (unjudged_faithful h calls faithful moment) in
     record {
       answered = ap (λ ls. Ok (Lines ls)) told_lines
           ∙ sym (ap (λ b. if b then Err Moment else Ok (Lines (map (waiting_line (counting h.opening h.steps moment)) (waiting_after h.opening h.steps moment)))) (le-ltb latest moment in_time));

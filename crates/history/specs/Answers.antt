@@ -34,12 +34,15 @@ new_lines h moment =
     let after = fold (acted h.opening.config) (archive h) (acts_of h.opening h.steps (QueueRun moment) (Ok (Lines []))) in
     map report_line (drop (length (archive h).judged) after.judged)
 
--- the line on an upload that waits: the number of its entries of which no body counts, and its name
+-- the line on an upload that waits: how many of its entries have no body that counts, and its name
+abbrev pub line_on_missing : ℕ → List ℕ → List ℕ
+line_on_missing count name = decimal count ++ codes " " ++ name
+
 abbrev pub line_on_waiting : Waiting → List ℕ
-line_on_waiting w = decimal w.missing ++ codes " " ++ w.name
+line_on_waiting w = line_on_missing (length w.lacks) w.name
 
 unfoldable pub waiting_line : List Arrival → Candidate → List ℕ
-waiting_line arrivals c = line_on_waiting (record { name = c.name; missing = length (missing arrivals c) })
+waiting_line arrivals c = line_on_missing (length (missing arrivals c)) c.name
 
 -- the file of the pool or the index text at a path
 unfoldable pub found_at : History → List ℕ → Option (List ℕ)

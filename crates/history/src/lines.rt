@@ -2,7 +2,7 @@
 
 ghost use Rattle.std.specs.Prelude.{◌≡◌, IfOk, map, string_bytes};
 ghost use Rattle.keep.specs.Book.{judgements};
-ghost use Rattle.history.specs.Answers.{report_line, line_on_waiting};
+ghost use Rattle.history.specs.Answers.{line_on_missing, line_on_waiting, report_line};
 
 use keep::{Judgement, Step, Waiting};
 use rules::Verdict;
@@ -36,10 +36,16 @@ pub fn report_lines(alloc: Global, steps: &[Step]) -> Result<Vec<String>, AllocE
     Ok(lines)
 }
 
-/// A line on an upload without a verdict: the number of its listed files that are missing, and its name.
+/// A line of a number and a name.
+fn counted_line(alloc: Global, count: usize, name: &str) -> Result<String, AllocError>
+    ensures { IfOk result (λ line. string_bytes line ≡ line_on_missing count name.now) }
+{
+    format!(in alloc; "{count} {name}")
+}
+
+/// A line on an upload without a verdict: how many listed files it lacks, and its name.
 pub fn waiting_line(alloc: Global, upload: &Waiting) -> Result<String, AllocError>
     ensures { IfOk result (λ line. string_bytes line ≡ line_on_waiting upload.now) }
 {
-    let (missing, name) = (upload.missing, upload.name.as_str());
-    format!(in alloc; "{missing} {name}")
+    counted_line(alloc, upload.lacks.as_slice().len(), upload.name.as_str())
 }

@@ -1,33 +1,14 @@
--- What is found from arrivals without their bytes is what the book says.
-use Rattle.std.proofs.Common.{◌≡◌, ℕ, ◌+◌, ◌<◌, Bool, true, false, ◌&&◌, cond, not, List, [], ◌∷◌, ◌++◌, bytes_eq, drop, filter, find, get_or, length, map, Option, Some, None, option_map, refl, sym, ap, ap₂, ◌∙◌}
-use Rattle.std.specs.List.{list_any}
+-- What is read of arrivals, and the texts of an upload entry by entry.
+use Rattle.std.proofs.Common.{◌≡◌, ℕ, ◌+◌, ◌<◌, Bool, true, false, ◌&&◌, cond, List, [], ◌∷◌, ◌++◌, bytes_eq, drop, find, get_or, length, Option, Some, None, option_map, refl, sym, ap, ◌∙◌}
 use Rattle.std.specs.Option.{option_and_then}
 use Rattle.std.proofs.lemmas.List.{append_assoc, drop_more}
-use Rattle.std.proofs.lemmas.List.Elements.{filter_agree}
 use Rattle.sums.specs.Prints.{print as print_of, same_print}
 use Rattle.sums.specs.declared.print.Print.{Print}
 use Rattle.sums.specs.declared.entries.Entry.{Entry}
-use Rattle.keep.specs.Book.{Candidate, arrived_file, counts, current, is_arrival_of, is_body_of, is_there, missing}
+use Rattle.keep.specs.Book.{is_arrival_of}
 use Rattle.keep.proofs.Prints.{same_print-Decides}
 use Rattle.keep.specs.declared.arrival.Arrival.{Arrival}
-use Rattle.keep.specs.declared.arrival.Counting.{Counting}
-use Rattle.suites.proofs.ListTests.{list_any-filter, list_any-map}
-use Rattle.inquiry.specs.Lacking.{counts_as, lacked}
 use Rattle.inquiry.specs.Reading.{body_of, kept_text, kept_texts}
-
-module _ (counting : Counting) (arrivals : List Arrival) where
-  -- a listed file has arrived and counts
-  here_is_there : (e : Entry) → list_any (counts_as counting e) (map arrived_file arrivals) ≡ is_there (current counting.span counting.moment arrivals) e
-  unfolding is_there is_body_of current
-  here_is_there e =
-      list_any-map (counts_as counting e) arrived_file arrivals
-      ∙ sym (list_any-filter (is_body_of e) (counts counting.span counting.moment) arrivals)
-
-  pub lacked_missing : (c : Candidate) → lacked counting (map arrived_file arrivals) c.changes.entries ≡ missing (current counting.span counting.moment arrivals) c
-  unfolding missing
-  lacked_missing c =
-      filter_agree (λ e. not (list_any (counts_as counting e) (map arrived_file arrivals))) (λ e. not (is_there (current counting.span counting.moment arrivals) e))
-      (λ e. ap not (here_is_there e)) c.changes.entries
 
 -- ---- a body that is read
 

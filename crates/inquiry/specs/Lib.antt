@@ -1,3 +1,2 @@
-pub mod Waiting
-pub mod Lacking
+pub mod Instead
 pub mod Reading

@@ -1,12 +1,8 @@
-//! What is asked of an archive about its uploads: which wait, what they lack, and what a judged one was read from.
+//! What is asked of an archive about its uploads: what came in place of what one lacks, and what a judged one was read from.
 #![tactic(auto)]
 
-mod lacking;
-mod laws;
+mod instead;
 mod reading;
-mod waiting;
 
-pub use lacking::{Lack, is_here, lacks_of};
-pub use laws::what_is_lacked_is_missing;
-pub use reading::{read_changes, read_upload};
-pub use waiting::{WaitingUpload, arrived_as_waiting, waiting_uploads};
+pub use instead::came_instead;
+pub use reading::read_upload;

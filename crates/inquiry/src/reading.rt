@@ -88,7 +88,7 @@ fn texts_of<K: Keeper>(
 }
 
 /// The .changes of a name and print, if it is there.
-pub fn read_changes<K: Keeper>(
+fn read_changes<K: Keeper>(
     alloc: Global,
     keeper: &mut K,
     name: &str,

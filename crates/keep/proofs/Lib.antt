@@ -14,3 +14,4 @@ pub mod Pieces
 pub mod Moments
 pub mod Searches
 pub mod Lists
+pub mod Lacks

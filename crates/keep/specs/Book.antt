@@ -26,6 +26,7 @@ use Rattle.keep.specs.declared.arrived.ArrivedFile.{ArrivedFile}
 use Rattle.keep.specs.declared.change.Judgement.{Judgement}
 use Rattle.keep.specs.declared.change.Step.{Step}
 use Rattle.keep.specs.declared.change.Change.{Change}
+use Rattle.keep.specs.declared.change.Lack.{Lack}
 use Rattle.keep.specs.declared.change.Waiting.{Waiting}
 
 -- The configuration; what has arrived, each pair of name and body once, in the order of its first delivery; the judged
@@ -186,9 +187,33 @@ upload_of arrivals c = record {
   texts = map (λ e. if has_text e.name then body_for arrivals e else []) c.changes.entries;
 }
 
--- each upload without a verdict, with the number of its entries of which no body has arrived
-unfoldable pub waiting_list : Book → List Waiting
-waiting_list book = map (λ c. record { name = c.name; missing = length (missing book.arrivals c) }) (unjudged book)
+-- ---- what waits
+
+-- the listed files with one more in its place by name, before those of its name
+abbrev pub put_by_name : Entry → List Entry → List Entry
+put_by_name e [] = e ∷ []
+put_by_name e (f ∷ fs) = if is_gt (text_order e.name f.name) then f ∷ put_by_name e fs else e ∷ f ∷ fs
+
+-- the listed files in the order of their names
+abbrev pub by_name : List Entry → List Entry
+by_name [] = []
+by_name (e ∷ es) = put_by_name e (by_name es)
+
+-- what is said of a listed file of which no arrival counts: it is ended if it is among all arrivals
+abbrev pub lack_of : List Arrival → Entry → Lack
+lack_of all e = record { name = e.name; print = e.print; is_ended = is_there all e }
+
+-- what is lacking of these listed files, if the second of these arrivals count: those of which none counts, in the order of their names
+unfoldable pub lacks_of : (all now : List Arrival) → List Entry → List Lack
+lacks_of all now entries = map (lack_of all) (filter (λ e. not (is_there now e)) (by_name entries))
+
+-- an upload without a verdict, with what it lacks
+abbrev pub waiting_of : (all now : List Arrival) → Candidate → Waiting
+waiting_of all now c = record { name = c.name; print = print_of c.body; lacks = lacks_of all now c.changes.entries }
+
+-- the uploads without a verdict whose .changes counts at a moment, in the order of judging, each with what it lacks then
+unfoldable pub waiting_list : ℕ → Book → List Waiting
+waiting_list moment book = map (waiting_of book.arrivals (at_moment moment book).arrivals) (unjudged (at_moment moment book))
 
 -- ---- texts
 

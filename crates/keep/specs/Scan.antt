@@ -1,20 +1,21 @@
 -- The words of the plain keeper's functions.
-use Rattle.std.specs.Prelude.{◌≡◌, ℕ, nat_eq, Bool, ◌&&◌, not, if◌then◌else◌, List, find, filter, bytes_eq, Option, Some, None, length}
+use Rattle.std.specs.Prelude.{◌≡◌, ℕ, nat_eq, Bool, ◌&&◌, not, if◌then◌else◌, List, find, filter, bytes_eq, Option, Some, None}
 use Rattle.std.specs.List.{list_any}
 use Rattle.std.specs.Option.{option_and_then, option_map, option_or}
+use Rattle.std.specs.Borrow.{Bor}
 use Rattle.std.specs.FinMap.{find as find_tied}
 use Rattle.sums.specs.Prints.{print as print_of, same_print}
+use Rattle.sums.specs.declared.entries.Entry.{Entry}
 use Rattle.sums.specs.declared.print.Print.{Print}
 use Rattle.suites.specs.Keys.{text_order}
 use Rattle.suites.specs.declared.item.Item.{Item}
 use Rattle.suites.specs.declared.key.ShelfKey.{ShelfKey}
 use Rattle.keep.specs.Book as book
-use Rattle.keep.specs.Book.{at_latest, candidates, current, in_order, is_arrival_of, is_judged, missing, touches}
+use Rattle.keep.specs.Book.{at_latest, candidates, current, in_order, is_arrival_of, is_judged, touches}
 use Rattle.keep.specs.declared.arrival.Arrival.{Arrival}
 use Rattle.keep.specs.declared.arrival.Counting.{Counting}
 use Rattle.keep.specs.declared.change.Judgement.{Judgement}
 use Rattle.keep.specs.declared.change.Step.{Step}
-use Rattle.keep.specs.declared.change.Waiting.{Waiting}
 use Rattle.keep.specs.declared.pool.PoolBody.{PoolBody}
 use Rattle.keep.specs.declared.candidate.Candidate as scan
 
@@ -38,9 +39,9 @@ has_judgement name body judged = list_any (λ j. bytes_eq j.name name && same_pr
 abbrev pub unjudged_in : List Arrival → List Judgement → List book.Candidate
 unjudged_in arrivals judged = in_order (filter (λ c. not (is_judged judged c)) (candidates arrivals))
 
--- an upload without a verdict, with the number of its entries that have not arrived
-abbrev pub waiting_of : List Arrival → book.Candidate → Waiting
-waiting_of arrivals c = record { name = c.name; missing = length (missing arrivals c) }
+-- the listed file that a reference leads to
+abbrev pub entry_at : Bor Entry → Entry
+entry_at e = e.now
 
 -- the file is at this path
 abbrev pub is_at : List ℕ → PoolBody → Bool

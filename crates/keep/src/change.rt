@@ -72,9 +72,19 @@ pub struct Change {
     pub texts: Listed<IndexText>,
 }
 
-/// An upload without a verdict: the name of its .changes, and how many of the entries that it lists have not arrived.
+/// A listed file of which no arrival counts: its name and its print, and whether it came and no longer counts.
+#[derive(Drop)]
+pub struct Lack {
+    pub name: Text,
+    pub print: Print,
+    pub is_ended: bool,
+}
+
+/// An upload without a verdict: the name and the print of its .changes, and the listed files of which no arrival counts, in
+/// the order of their names.
 #[derive(Drop)]
 pub struct Waiting {
     pub name: Text,
-    pub missing: usize,
+    pub print: Print,
+    pub lacks: Listed<Lack>,
 }

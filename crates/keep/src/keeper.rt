@@ -267,14 +267,14 @@ pub trait Keeper {
         Ok(is_kept(&kept, text.text.as_slice()))
     }
 
-    /// The uploads without a verdict, in the order of `complete_uploads`, each with the number of its entries that have
-    /// not arrived. Only arrivals that count at the moment are looked at.
+    /// The uploads without a verdict whose .changes counts at the moment, in the order of `complete_uploads`, each with what it
+    /// lacks: its listed files of which no arrival counts at the moment, in the order of their names.
     fn waiting(&mut self, alloc: Global, moment: u64) -> Result<Vec<Waiting>, KeepFault>
         requires { moment ≤ latest }
         ensures reads { Reads is_clean is_open faults book may_leave self.old self.new }
         ensures served { is_clean self.new → OnOk result (is_open self.new) }
         ensures waiting { is_clean self.new → IfOk result (λ waiting. Apart (book self.old)
-            (waiting.items ≡ waiting_list (at_moment moment (book self.old)))) }
+            (waiting.items ≡ waiting_list moment (book self.old))) }
         ensures cause { IfErr result (MayAnswer may_fail) };
 
     /// What has arrived and was not taken away, without its bytes, in the order of first deliveries. This includes what no

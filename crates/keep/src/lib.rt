@@ -17,7 +17,7 @@ mod uploads;
 
 pub use arrival::{Arrival, Body, Counting};
 pub use arrived::ArrivedFile;
-pub use change::{Change, IndexText, Judgement, Step, Waiting};
+pub use change::{Change, IndexText, Judgement, Lack, Step, Waiting};
 pub use configured::Configured;
 pub use fault::KeepFault;
 pub use keeper::{Keeper, PIECE_SIZE};

@@ -4,22 +4,19 @@ ghost use Rattle.std.specs.Prelude.{◌≡◌, ◌≤◌, true, ◌++◌, [], �
 ghost use Rattle.std.specs.List.{list_all};
 ghost use Rattle.std.specs.Option.{option_map};
 ghost use Rattle.std.specs.Ordering.{is_gt};
-ghost use Rattle.std.specs.Result.{result_ok};
-ghost use Rattle.records.specs.Records.{changes_in as record_in};
 ghost use Rattle.suites.specs.Upload.{has_text as keeps_text};
 ghost use Rattle.sums.specs.FileNames.{is_changes_name as has_changes_name};
-ghost use Rattle.keep.specs.Book.{body_for, candidate_of, candidate_order, is_complete, is_there as has_come, judging_order as order_of, put_in_order, upload_of as upload_at};
+ghost use Rattle.keep.specs.Book.{body_for, by_name, candidate_of, candidate_order, is_complete, is_there as has_come, judging_order as order_of, lack_of, lacks_of, put_by_name, put_in_order, upload_of as upload_at, waiting_of};
 ghost use Rattle.keep.specs.declared.arrival.Arrival.{Arrival as ArrivalValue};
-ghost use Rattle.keep.specs.Scan.{candidate_view, counted, has_judgement, unjudged_in, waiting_of};
+ghost use Rattle.keep.specs.Scan.{candidate_view, counted, entry_at, has_judgement, unjudged_in};
 
-use crate::arrival::{Arrival, Counting, current_arrival, has_current};
+use crate::arrival::{Arrival, Counting, current_arrival, has_arrival, has_current};
 use crate::candidate::Candidate;
-use crate::change::{Judgement, Waiting};
+use crate::change::{Judgement, Lack, Waiting};
 use para::Listed;
-use records::{Changes, RecordFault};
 use std::alloc::{AllocError, Global};
 use std::cmp::Ordering;
-use suites::{Upload, has_text};
+use suites::{Upload, changes_in, has_text};
 use sums::{Entry, Print, is_changes_name};
 
 /// The bytes of a list in a list of their own.
@@ -37,17 +34,64 @@ fn is_there(arrivals: &[Arrival], counting: Counting, entry: &Entry) -> bool
     has_current(arrivals, counting, entry.name.as_str(), entry.print)
 }
 
-/// How many of the listed files have not arrived, or no longer count.
-fn missing_count(arrivals: &[Arrival], counting: Counting, entries: &[Entry]) -> usize
-    ensures { result ≡ length (filter (λ e. not (has_come (counted counting arrivals.now) e)) entries.now) }
+/// The position of another listed file among these, which are in the order of their names: before those of its name.
+fn position_by_name(found: &[&Entry], other: &Entry) -> usize
+    ensures within { result ≤ length found.now }
+    ensures placed { put_by_name other.now (map entry_at found.now)
+        ≡ map entry_at (take result found.now) ++ other.now ∷ map entry_at (drop result found.now) }
 {
-    let mut count = 0;
-    for entry in entries {
-        if !is_there(arrivals, counting, entry) {
-            count += 1;
+    for (index, one) in found.iter().enumerate() {
+        if !other.name.as_str().cmp(one.name.as_str()).is_gt() {
+            return index;
         }
     }
-    count
+    found.len()
+}
+
+/// The listed files in the order of their names.
+fn by_name(alloc: Global, entries: &[Entry]) -> Result<Vec<&Entry>, AllocError>
+    ensures { IfOk result (λ found. map entry_at found.items ≡ by_name entries.now) }
+{
+    let mut found = Vec::new(alloc);
+    let mut left = entries.len();
+    while left > 0 {
+        left -= 1;
+        let entry = &entries[left];
+        let position = position_by_name(&found, entry);
+        found.insert(position, entry)?;
+    }
+    Ok(found)
+}
+
+/// What is said of a listed file of which no arrival counts.
+#[tactic(auto, unfolding(crate::specs::Book::is_there, crate::specs::Book::is_body_of))]
+fn lack_of(arrivals: &[Arrival], entry: &Entry) -> Result<Lack, AllocError>
+    ensures { IfOk result (λ lack. lack ≡ lack_of arrivals.now entry.now) }
+{
+    Ok(Lack {
+        name: entry.name.try_clone()?,
+        print: entry.print,
+        is_ended: has_arrival(arrivals, entry.name.as_str(), entry.print),
+    })
+}
+
+/// The listed files of which no arrival counts, in the order of their names.
+#[tactic(auto, unfolding(crate::specs::Book::lacks_of))]
+fn lacks_of(
+    alloc: Global,
+    arrivals: &[Arrival],
+    counting: Counting,
+    entries: &[Entry],
+) -> Result<Listed<Lack>, AllocError>
+    ensures { IfOk result (λ lacks. lacks ≡ lacks_of arrivals.now (counted counting arrivals.now) entries.now) }
+{
+    let mut lacks = Vec::new(alloc);
+    for entry in by_name(alloc, entries)? {
+        if !is_there(arrivals, counting, entry) {
+            lacks.push(lack_of(arrivals, entry)?)?;
+        }
+    }
+    Ok(Listed::from_vec(lacks))
 }
 
 /// Whether each of the listed files has arrived and counts.
@@ -82,17 +126,6 @@ fn is_judged(judged: &[Judgement], changes: &Arrival) -> bool
         }
     }
     false
-}
-
-/// The record that a text is, or nothing if the text is not one.
-fn changes_in(alloc: Global, text: &[u8]) -> Result<Option<Changes>, AllocError>
-    ensures { IfOk result (λ changes. changes ≡ result_ok (record_in text.now)) }
-{
-    match Changes::read(alloc, text) {
-        Ok(changes) => Ok(Some(changes)),
-        Err(RecordFault::OutOfMemory) => Err(AllocError),
-        Err(_) => Ok(None),
-    }
 }
 
 /// Whether the arrival has the name of a .changes.
@@ -142,8 +175,8 @@ fn candidate_order(a: &Candidate<'_>, b: &Candidate<'_>) -> Ordering
     )
 }
 
-/// The place of another .changes among these, which are in order: before those that tie with it.
-fn place(found: &[Candidate<'_>], other: &Candidate<'_>) -> usize
+/// The position of another .changes among these, which are in order: before those that tie with it.
+fn position_in_order(found: &[Candidate<'_>], other: &Candidate<'_>) -> usize
     ensures within { result ≤ length found.now }
     ensures placed { put_in_order (candidate_view other.now) (map candidate_view found.now)
         ≡ map candidate_view (take result found.now) ++ candidate_view other.now ∷ map candidate_view (drop result found.now) }
@@ -156,7 +189,7 @@ fn place(found: &[Candidate<'_>], other: &Candidate<'_>) -> usize
     found.len()
 }
 
-/// Adds the .changes that an arrival is, if it counts and has no verdict. It gets its place among those of the arrivals
+/// Adds the .changes that an arrival is, if it counts and has no verdict. It gets its position among those of the arrivals
 /// after it.
 fn add_unjudged<'a>(
     alloc: Global,
@@ -178,8 +211,8 @@ fn add_unjudged<'a>(
         return Ok(());
     }
     if let Some(one) = read_candidate(alloc, arrival)? {
-        let place = place(found, &one);
-        found.insert(place, one)?;
+        let position = position_in_order(found, &one);
+        found.insert(position, one)?;
     }
     Ok(())
 }
@@ -275,8 +308,8 @@ pub fn complete_uploads(
     Ok(uploads)
 }
 
-/// The uploads without a verdict, in the order of judging, each with the number of its entries that have not arrived, among
-/// the arrivals that count.
+/// The uploads without a verdict whose .changes counts, in the order of judging, each with its listed files of which no arrival
+/// counts.
 pub fn waiting_uploads(
     alloc: Global,
     arrivals: &[Arrival],
@@ -284,14 +317,15 @@ pub fn waiting_uploads(
     judged: &[Judgement],
 ) -> Result<Vec<Waiting>, AllocError>
     ensures { IfOk result (λ waiting. waiting.items
-        ≡ map (waiting_of (counted counting arrivals.now)) (unjudged_in (counted counting arrivals.now) judged.now)) }
+        ≡ map (waiting_of arrivals.now (counted counting arrivals.now)) (unjudged_in (counted counting arrivals.now) judged.now)) }
 {
     let found = unjudged(alloc, arrivals, counting, judged)?;
     let mut waiting = Vec::new(alloc);
     for candidate in &found {
         waiting.push(Waiting {
             name: candidate.arrival.name.try_clone()?,
-            missing: missing_count(arrivals, counting, candidate.changes.entries()),
+            print: candidate.arrival.body.print(),
+            lacks: lacks_of(alloc, arrivals, counting, candidate.changes.entries())?,
         })?;
     }
     Ok(waiting)

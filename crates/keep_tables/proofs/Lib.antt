@@ -5,6 +5,7 @@ pub mod OpenLemmas
 pub mod UnderWayLemmas
 pub mod AtHandLemmas
 pub mod MomentLemmas
+pub mod LackLemmas
 pub mod FoundArrivals
 pub mod ArrivedReads
 pub mod FilePieces

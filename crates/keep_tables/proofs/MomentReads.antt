@@ -2,11 +2,9 @@
 use Rattle.std.proofs.Common.{◌≡◌, ℕ, ◌<◌, Bool, true, false, not, ◌&&◌, cond, nat_eq, if◌then◌else◌, List, [], ◌∷◌, map, filter, length, Option, Some, None, option_map, unwrap_or, refl, sym, ap, ap₂, subst, ◌∙◌}
 use Rattle.std.specs.List.{AllByRecursion, cons_option, filter_map, list_any}
 use Rattle.std.specs.Option.{option_and_then, option_map_or}
-use Rattle.std.specs.Ordering.{is_gt}
 use Rattle.std.specs.Result.{result_ok}
-use Rattle.std.specs.declared.cmp.Ordering.{Ordering}
 use Rattle.std.proofs.lemmas.Bool.{and_right, eqb-true}
-use Rattle.std.proofs.lemmas.List.{length-map}
+use Rattle.std.proofs.lemmas.List.{length-map, map-id}
 use Rattle.sqlite.specs.Effect.{Database}
 use Rattle.sqlite_keyed.proofs.ListLemmas.{all-filter, all_of, all_weaker, ascending-filter, filter-filter, filter-map, filter_all, filter_same, map_same}
 use Rattle.records.specs.Records.{changes_in}
@@ -16,9 +14,10 @@ use Rattle.sums.specs.declared.entries.Entry.{Entry}
 use Rattle.sums.specs.declared.print.Print.{Print}
 use Rattle.suites.specs.Shelves.{ShelvesValue}
 use Rattle.suites.specs.Upload.{UploadValue, has_text}
-use Rattle.keep.specs.Book.{Book, at_moment, counts, counts_since, current, due, span, upload_of, waiting_list}
+use Rattle.keep.specs.Book.{Book, at_moment, counts, counts_since, current, due, span, unjudged as unjudged_of, upload_of, waiting_list, waiting_of}
 use Rattle.keep.specs.declared.arrival.Arrival.{Arrival}
 use Rattle.keep.specs.declared.change.Judgement.{Judgement}
+use Rattle.keep.specs.declared.change.Lack.{Lack}
 use Rattle.keep.specs.declared.change.Waiting.{Waiting}
 use Rattle.tables.specs.Arrivals.{is_arrival}
 use Rattle.tables.specs.Rows.{Rises, Tables, rows_of, tables_in}
@@ -30,7 +29,7 @@ use Rattle.tables_meaning.specs.Archives.{KeepsArchive, book_in_database}
 use Rattle.tables_meaning.specs.Cleaning.{counts_row, has_ended, is_current, with_current}
 use Rattle.tables_meaning.specs.Finished.{finished}
 use Rattle.tables_meaning.specs.Kept.{AreArrivals, AreNumbered, AreStored, AreUploads, arrivals_in, book_in, bytes_of}
-use Rattle.tables_meaning.specs.Reads.{bytes_with, due_in, missing_in, put_by, row_order, sorted_by, text_in, upload_in, waiting_in, wanting, wanting_rows}
+use Rattle.tables_meaning.specs.Reads.{bytes_with, due_in, lacks_in, missing_in, row_order, sorted_by, text_in, upload_in, waiting_in, wanting, wanting_rows}
 use Rattle.tables_meaning.proofs.BodyLemmas.{are_stored}
 use Rattle.tables_meaning.proofs.DeliveredLemmas.{numbered}
 use Rattle.tables_meaning.proofs.DueLemmas.{due_are}
@@ -38,15 +37,17 @@ use Rattle.tables_meaning.proofs.FinishedLemmas.{body_finished, bytes_with_finis
 use Rattle.tables_meaning.proofs.LikeLemmas.{stored_like}
 use Rattle.tables_meaning.proofs.RowLists.{all_filtered}
 use Rattle.tables_meaning.proofs.Searches.{filter_twice, map_same_on}
-use Rattle.tables_meaning.proofs.WaitingLemmas.{waiting_list_is}
+use Rattle.tables_meaning.proofs.WaitingLemmas.{waits_are}
 use Rattle.tables_meaning.proofs.WantingLemmas.{only_one, wanting_unjudged}
 use Rattle.tables_meaning.proofs.SweptFinished.{and_true}
 use Rattle.tables_meaning.proofs.SweptLemmas.{unset}
 use Rattle.tables_cleaning.proofs.CurrentLemmas.{arrivals_current, arrivals_left}
 use Rattle.tables_cleaning.proofs.CurrentUploads.{uploads_left, wants_left}
-use Rattle.keep_tables.specs.Moments.{due_at, missing_at, rows_at, waiting_at}
+use Rattle.keep_tables.specs.Moments.{due_at, lacks_at, missing_at, rows_at, waiting_at}
 use Rattle.tables_counting.specs.Moments.{found_current, is_had}
 use Rattle.keep_tables.proofs.FoundArrivals.{current_if_found}
+use Rattle.keep_tables.proofs.LackLemmas.{entries_here, lacks_turned}
+use Rattle.keep_tables.proofs.MomentLemmas.{all_sorted}
 
 -- ---- lists
 
@@ -62,18 +63,6 @@ made_same : {X Y : Type 0} (f g : X → Option Y) (xs : List X) → AllByRecursi
 made_same f g [] h = refl
 made_same f g (x ∷ xs) h = ap₂ cons_option h.0 (made_same f g xs h.1)
 
-all_put : {X : Type 0} (P : X → Type 0) (order : X → X → Ordering) (x : X) (ys : List X) → P x → AllByRecursion P ys → AllByRecursion P (put_by order x ys)
-all_put P order x [] is all = (is, tt)
-all_put P order x (y ∷ ys) is all = elim (is_gt (order x y)) as (λ b. AllByRecursion P (if b then y ∷ put_by order x ys else x ∷ y ∷ ys)) [
-  | true ↦ (all.0, all_put P order x ys is all.1)
-  | false ↦ (is, all)
-]
-
--- what holds of each element holds of each once they are in order
-all_sorted : {X : Type 0} (P : X → Type 0) (order : X → X → Ordering) (xs : List X) → AllByRecursion P xs → AllByRecursion P (sorted_by order xs)
-all_sorted P order [] all = tt
-all_sorted P order (x ∷ xs) all = all_put P order x (sorted_by order xs) all.0 (all_sorted P order xs all.1)
-
 -- the uploads that are not judged and count are those that are not judged and have not ended
 left_waits : (j c : Bool) → (not j && c) ≡ (not (not j && not c) && not j)
 left_waits true c = refl
@@ -82,8 +71,8 @@ left_waits false false = refl
 
 -- ---- an upload as it is read
 
-abbrev waits_for : List ℕ → ℕ → Waiting
-waits_for name missing = record { name = name; missing = missing }
+abbrev waits_for : UploadRow → List Lack → Waiting
+waits_for u lacks = record { name = u.name; print = u.print; lacks = lacks }
 
 -- the upload as it is read, by the bodies that are found
 abbrev read_by : (Print → Option (List ℕ)) → UploadRow → Option UploadValue
@@ -111,6 +100,11 @@ rows_for_good moment t = ap (sorted_by row_order) (chosen (λ (x : ℕ × Upload
 missing_for_good : (moment : ℕ) (t : Tables) (id : ℕ) → missing_at None moment t id ≡ missing_in t id
 unfolding missing_at missing_in
 missing_for_good moment t id = ap length (filter_same (λ (w : Want). not (is_had None moment t w)) (λ w. not w.here) (λ w. ap not (and_true w.here)) (filter (is_wanted_by id) (rows_of t.wants)))
+
+lacks_for_good : (moment : ℕ) (t : Tables) (judged : List Judgement) → AreArrivals (finished t) → AreUploads (finished t) judged → (id : ℕ) → lacks_at None moment t id ≡ lacks_in (arrivals_in (finished t)) t id
+lacks_for_good moment t judged arrived uploads id =
+    lacks_turned t (arrivals_in (finished t)) (entries_here t judged arrived uploads) None moment t (λ w. w) (λ w. refl) (λ w. refl) (λ w. and_true w.here) id
+    (sym (map-id (filter (is_wanted_by id) (rows_of t.wants))))
 
 -- ---- if what arrives counts for some seconds
 
@@ -208,6 +202,15 @@ module _ (t : Tables) (judged : List Judgement) (up : AreNumbered t) (stored : A
         | false ↦ and_right w.here false refl
       ]
 
+  turn_name : (w : Want) → (turn w).name ≡ w.name
+  turn_name w = elim (cur w.name w.print) as (λ b. (cond (not b) (record w { here = false }) w).name ≡ w.name) [ true ↦ refl | false ↦ refl ]
+
+  turn_print : (w : Want) → (turn w).print ≡ w.print
+  turn_print w = elim (cur w.name w.print) as (λ b. (cond (not b) (record w { here = false }) w).print ≡ w.print) [ true ↦ refl | false ↦ refl ]
+
+  had_then : (w : Want) → is_had (Some seconds) moment t w ≡ (turn w).here
+  had_then w = ap (λ b. w.here && b) (same_current w.name w.print) ∙ turn_here w
+
   wants_then : (id : ℕ) → has_gone id ≡ false → filter (is_wanted_by id) (rows_of left.wants) ≡ map turn (filter (is_wanted_by id) (rows_of whole.wants))
   wants_then id none =
       ap (filter (is_wanted_by id)) (wants_left whole (Some seconds) moment)
@@ -223,10 +226,14 @@ module _ (t : Tables) (judged : List Judgement) (up : AreNumbered t) (stored : A
   unfolding missing_at missing_in finished
   missing_then id none =
       let mine : List Want = filter (is_wanted_by id) (rows_of t.wants) in
-      ap length (filter_same (λ (w : Want). not (is_had (Some seconds) moment t w)) (λ w. not (turn w).here) (λ w. ap not (ap (λ b. w.here && b) (same_current w.name w.print) ∙ turn_here w)) mine)
+      ap length (filter_same (λ (w : Want). not (is_had (Some seconds) moment t w)) (λ w. not (turn w).here) (λ w. ap not (had_then w)) mine)
       ∙ sym (length-map (filter (λ w. not (turn w).here) mine) turn)
       ∙ ap length (sym (filter-map (λ (w : Want). not w.here) turn mine))
       ∙ ap (λ (ws : List Want). length (filter (λ w. not w.here) ws)) (sym (wants_then id none))
+
+  lacks_then : (id : ℕ) → has_gone id ≡ false → lacks_at (Some seconds) moment t id ≡ lacks_in (arrivals_in whole) left id
+  unfolding finished
+  lacks_then id none = lacks_turned t (arrivals_in whole) (entries_here t judged arrived uploads) (Some seconds) moment left turn turn_name turn_print had_then id (wants_then id none)
 
   -- ---- the reads
 
@@ -251,8 +258,8 @@ module _ (t : Tables) (judged : List Judgement) (up : AreNumbered t) (stored : A
   due_then : (x : ℕ × UploadRow) → has_gone x.0 ≡ false → due_at (Some seconds) moment t x ≡ due_in left x
   due_then x none = ap₂ due_if (missing_then x.0 none) (upload_then x.1)
 
-  waiting_then : (x : ℕ × UploadRow) → has_gone x.0 ≡ false → waiting_at (Some seconds) moment t x ≡ waiting_in left x
-  waiting_then x none = ap (waits_for x.1.name) (missing_then x.0 none)
+  waiting_then : (x : ℕ × UploadRow) → has_gone x.0 ≡ false → waiting_at (Some seconds) moment t x ≡ waiting_in (arrivals_in whole) left x
+  waiting_then x none = ap (waits_for x.1) (lacks_then x.0 none)
 
   module _ (b : Book) (same : b.arrivals ≡ arrivals_in left) (judged_are : b.judged ≡ judged) where
     their_uploads : AreUploads left b.judged
@@ -265,12 +272,12 @@ module _ (t : Tables) (judged : List Judgement) (up : AreNumbered t) (stored : A
         (all_weaker (λ x. has_gone x.0 ≡ false) (λ x. due_at (Some seconds) moment t x ≡ due_in left x) due_then (wanting_rows left) none_gone)
         ∙ due_are left b same left_rises their_uploads left_stored left_arrived
 
-    pub waits_then : map (waiting_at (Some seconds) moment t) (rows_at (Some seconds) moment t) ≡ waiting_list b
+    pub waits_then : map (waiting_at (Some seconds) moment t) (rows_at (Some seconds) moment t) ≡ map (waiting_of (arrivals_in whole) b.arrivals) (unjudged_of b)
     waits_then =
         ap (map (waiting_at (Some seconds) moment t)) rows_then
-        ∙ map_same_on (waiting_at (Some seconds) moment t) (waiting_in left) (wanting_rows left)
-        (all_weaker (λ x. has_gone x.0 ≡ false) (λ x. waiting_at (Some seconds) moment t x ≡ waiting_in left x) waiting_then (wanting_rows left) none_gone)
-        ∙ waiting_list_is left b same left_rises their_uploads
+        ∙ map_same_on (waiting_at (Some seconds) moment t) (waiting_in (arrivals_in whole) left) (wanting_rows left)
+        (all_weaker (λ x. has_gone x.0 ≡ false) (λ x. waiting_at (Some seconds) moment t x ≡ waiting_in (arrivals_in whole) left x) waiting_then (wanting_rows left) none_gone)
+        ∙ waits_are (arrivals_in whole) left b same left_rises their_uploads
 
 -- ---- the book at a moment
 
@@ -312,13 +319,26 @@ module _ (db : Database) (config : ConfigValue) (judged : List Judgement) (shown
       dues_then rows judged rise all_stored keeps.kept.arrivals keeps.kept.uploads seconds moment (book_then moment)
       (arrivals_then (Some seconds) same moment ∙ sym (arrivals_current (finished rows) all_stored keeps.kept.arrivals (Some seconds) moment)) (judged_then moment)
 
-  -- WHAT UPLOADS WAIT FOR at a moment.
-  pub waits_at : (seconds : Option ℕ) → seconds ≡ span config → (moment : ℕ)
-      → map (waiting_at seconds moment rows) (rows_at seconds moment rows) ≡ waiting_list (book_then moment)
-  waits_at None same moment =
+  -- all arrivals of the book
+  all_arrivals : arrivals_in (finished rows) ≡ (book_in_database db config judged shown dates).arrivals
+  unfolding book_in
+  all_arrivals = refl
+
+  -- WHAT UPLOADS WAIT FOR at a moment, over all arrivals.
+  waits_over : (seconds : Option ℕ) → seconds ≡ span config → (moment : ℕ)
+      → map (waiting_at seconds moment rows) (rows_at seconds moment rows) ≡ map (waiting_of (arrivals_in (finished rows)) (book_then moment).arrivals) (unjudged_of (book_then moment))
+  waits_over None same moment =
+      let alike : (x : ℕ × UploadRow) → waiting_at None moment rows x ≡ waiting_in (arrivals_in (finished rows)) rows x =
+      λ x. ap (waits_for x.1) (lacks_for_good moment rows judged keeps.kept.arrivals keeps.kept.uploads x.0) in
       ap (map (waiting_at None moment rows)) (rows_for_good moment rows)
-      ∙ map_same (waiting_at None moment rows) (waiting_in rows) (λ x. ap (waits_for x.1.name) (missing_for_good moment rows x.0)) (wanting_rows rows)
+      ∙ map_same (waiting_at None moment rows) (waiting_in (arrivals_in (finished rows)) rows) alike (wanting_rows rows)
       ∙ waiting_finished rows (book_then moment) (arrivals_then None same moment ∙ for_good moment (arrivals_in (finished rows))) rise.uploads (uploads_then moment)
-  waits_at (Some seconds) same moment =
+  waits_over (Some seconds) same moment =
       waits_then rows judged rise all_stored keeps.kept.arrivals keeps.kept.uploads seconds moment (book_then moment)
       (arrivals_then (Some seconds) same moment ∙ sym (arrivals_current (finished rows) all_stored keeps.kept.arrivals (Some seconds) moment)) (judged_then moment)
+
+  pub waits_at : (seconds : Option ℕ) → seconds ≡ span config → (moment : ℕ)
+      → map (waiting_at seconds moment rows) (rows_at seconds moment rows) ≡ waiting_list moment (book_in_database db config judged shown dates)
+  unfolding waiting_list
+  waits_at seconds same moment =
+      waits_over seconds same moment ∙ ap (λ all. map (waiting_of all (book_then moment).arrivals) (unjudged_of (book_then moment))) all_arrivals

@@ -9,6 +9,7 @@ mod cleanings;
 mod coming;
 mod configurations;
 mod keeper;
+mod lacks;
 mod laws;
 mod opening;
 mod reads;

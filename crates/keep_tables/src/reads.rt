@@ -52,7 +52,8 @@ pub fn read_due<S: Alter>(
     due_uploads(alloc, conn, seconds, moment)
 }
 
-/// The uploads without a verdict at the moment, each with how many of its entries have not arrived or no longer count.
+/// The uploads without a verdict whose .changes counts at the moment, each with what it lacks: its entries that have not arrived
+/// or no longer count, in the order of their names.
 pub fn read_waiting<S: Alter>(
     alloc: Global,
     conn: &mut Connection<S>,
@@ -64,7 +65,7 @@ pub fn read_waiting<S: Alter>(
     ensures read { IsRead (state S.Store conn.old) (state S.Store conn.new) }
     ensures open { IsOpenOverArchive S.Store conn.old conn.new result }
     ensures waiting { OnCleanDisk S.Store conn.old conn.new (λ old new. OverSpan old.committed seconds (λ config judged shown dates.
-        IfOk result (λ all. all.items ≡ waiting_list (at_moment moment (book_in_database old.committed config judged shown dates))))) }
+        IfOk result (λ all. all.items ≡ waiting_list moment (book_in_database old.committed config judged shown dates)))) }
 {
     // For the prover alone: outside a transaction the connection has what is committed.
     let _settled = conn.is_autocommit();

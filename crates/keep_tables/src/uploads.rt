@@ -15,6 +15,7 @@ ghost use Rattle.tables_counting.specs.Moments.{is_had};
 ghost use Rattle.tables.specs.Calls.{CommitsNoRows, OverRows, Reads};
 ghost use Rattle.tables_meaning.specs.Calls.{ReadUndone, ReadsAtRest};
 
+use crate::lacks::lacks_of;
 use keep::{Waiting, judging_order};
 use para::Listed;
 use records::{Changes, RecordFault};
@@ -196,8 +197,7 @@ pub(crate) fn missing_of<S: Alter>(
     Ok(missing)
 }
 
-/// The uploads that are not judged and still count at the moment, in the order of judging, each with the number of its entries
-/// that have not arrived or no longer count.
+/// The uploads that are not judged and still count at the moment, in the order of judging, each with what it lacks.
 pub fn waiting_uploads<S: Alter>(
     alloc: Global,
     conn: &mut Connection<S>,
@@ -212,10 +212,11 @@ pub fn waiting_uploads<S: Alter>(
 {
     let mut waiting = Vec::new(alloc);
     for (id, upload) in wanting_in_order(alloc, conn, span, moment)? {
-        let missing = missing_of(alloc, conn, id, span, moment)?;
+        let lacks = lacks_of(alloc, conn, id, span, moment)?;
         waiting.push(Waiting {
             name: upload.name,
-            missing,
+            print: upload.print,
+            lacks: Listed::from_vec(lacks),
         })?;
     }
     Ok(waiting)

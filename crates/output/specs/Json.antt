@@ -1,5 +1,5 @@
 -- What a suite shows, which uploads wait and which were judged, as values of JSON. An object has its keys in the order of their bytes.
-use Rattle.std.specs.Prelude.{ℕ, List, [], ◌∷◌, map, codes}
+use Rattle.std.specs.Prelude.{ℕ, List, [], ◌∷◌, length, map, codes}
 use Rattle.hex.specs.Hex.{encode_lower}
 use Rattle.serde_json.specs.Data.{Data, number, unsigned, string, array, object, member, no_members}
 use Rattle.serde_json.specs.View.{items_of}
@@ -27,9 +27,9 @@ item_data item =
     (member (codes "package") (string item.«package»)
     (member (codes "source") (string item.source) (member (codes "version") (string item.version) no_members))))))
 
--- an upload without a verdict: how many of its files are missing, and its name
+-- an upload without a verdict: how many listed files it lacks, and its name
 abbrev pub waiting_data : Waiting → Data
-waiting_data waiting = object (member (codes "missing") (number (unsigned waiting.missing)) (member (codes "upload") (string waiting.name) no_members))
+waiting_data waiting = object (member (codes "missing") (number (unsigned (length waiting.lacks))) (member (codes "upload") (string waiting.name) no_members))
 
 -- a judged upload: its name, and the number of its verdict
 abbrev pub judgement_data : Judgement → Data

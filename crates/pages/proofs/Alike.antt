@@ -12,7 +12,8 @@ use Rattle.suites.specs.declared.key.ShelfKey.{ShelfKey}
 use Rattle.suites.specs.declared.item.Item.{Item}
 use Rattle.suites.specs.declared.item.PoolFile.{PoolFile}
 use Rattle.keep.specs.declared.change.Judgement.{Judgement}
-use Rattle.pages.specs.declared.uploads.Lacking.{Lacking}
+use Rattle.keep.specs.declared.change.Lack.{Lack}
+use Rattle.keep.specs.declared.change.Waiting.{Waiting}
 use Rattle.texts.specs.Calendar.{latest, date_text}
 use Rattle.texts.specs.Indices.{path_in}
 use Rattle.pages.specs.Escapes.{is_markup, escaped, escaped_byte}
@@ -25,7 +26,7 @@ use Rattle.pages.specs.IndexPage.{item_count, name_text, description_text, known
 use Rattle.pages.specs.Markup.{markup, has_file, has_description}
 use Rattle.pages.specs.Meanings.{verdict_word, meaning}
 use Rattle.pages.specs.SuitePage.{item_name, item_row}
-use Rattle.pages.specs.UploadsPage.{waiting_row, judged_row}
+use Rattle.pages.specs.UploadsPage.{after_blank, names_text, names_cell, waiting_row, judged_row}
 
 pub record Alike (a b : List ℕ) : Type 0 where
   pub same : markup a ≡ markup b
@@ -153,10 +154,24 @@ item_rows a b h =
 
 -- ---- the page of uploads
 
-pub waiting_rows : (w v : Lacking) → Alike (waiting_row w) (waiting_row v)
+more_names_bare : (lacks : List Lack) → markup (flat_map after_blank lacks) ≡ []
+more_names_bare [] = refl
+more_names_bare (l ∷ ls) =
+    bare_behind (codes " " ++ escaped l.name) (flat_map after_blank ls) (bare_behind (codes " ") (escaped l.name) refl (bare l.name)) (more_names_bare ls)
+
+names_bare : (lacks : List Lack) → markup (names_text lacks) ≡ []
+names_bare [] = refl
+names_bare (l ∷ ls) = bare_behind (escaped l.name) (flat_map after_blank ls) (bare l.name) (more_names_bare ls)
+
+name_cells : (ks ls : List Lack) → Alike (names_cell ks) (names_cell ls)
+unfolding names_cell
+name_cells ks ls =
+    both (both (itself (codes "<td>")) (without (names_text ks) (names_text ls) (names_bare ks) (names_bare ls))) (itself (codes "</td>"))
+
+pub waiting_rows : (w v : Waiting) → Alike (waiting_row w) (waiting_row v)
 unfolding waiting_row
 waiting_rows w v =
-    both (both (both (itself (codes "<tr>")) (cells w.name v.name)) (cells w.files v.files)) (itself (codes "</tr>\n"))
+    both (both (both (itself (codes "<tr>")) (cells w.name v.name)) (name_cells w.lacks v.lacks)) (itself (codes "</tr>\n"))
 
 -- a cell with a constant that depends on the verdict
 verdict_cells : (text : Verdict → List ℕ) (v w : Verdict) → v ≡ w → Alike (constant_cell (text v)) (constant_cell (text w))

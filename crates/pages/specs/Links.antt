@@ -7,12 +7,12 @@ use Rattle.pages.specs.Escapes.{escaped}
 
 -- a byte of a path that an address has as it is: a letter, a digit, `-`, `.`, `_` or `~` (RFC 3986, 2.3), or the slash, which parts
 -- a path (3.3)
-abbrev pub is_kept : ℕ → Bool
-is_kept b = is_ascii_alphanumeric b || ((b == 45) || ((b == 46) || ((b == 95) || ((b == 126) || (b == 47)))))
+abbrev pub is_literal : ℕ → Bool
+is_literal b = is_ascii_alphanumeric b || ((b == 45) || ((b == 46) || ((b == 95) || ((b == 126) || (b == 47)))))
 
 -- what an address has for a byte of a path: that byte, or `%` and its two upper-case hexadecimal digits (2.1)
 abbrev pub address_byte : ℕ → List ℕ
-address_byte b = if is_kept b then b ∷ [] else percent_encode_byte b
+address_byte b = if is_literal b then b ∷ [] else percent_encode_byte b
 
 -- The address of a path, after a front such as `../../`.
 unfoldable pub address : List ℕ → List ℕ → List ℕ

@@ -18,4 +18,4 @@ pub use escape::{no_text_is_markup, push_text};
 pub use index::index_page;
 pub use laws::texts_leave_the_markup;
 pub use suite::suite_page;
-pub use uploads::{Lacking, uploads_page};
+pub use uploads::uploads_page;

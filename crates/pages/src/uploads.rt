@@ -2,22 +2,14 @@
 
 ghost use Rattle.std.specs.Prelude.{◌≡◌, ◌++◌, IfOk, OnOk, reverse, string_bytes};
 ghost use Rattle.std.specs.List.{flat_map};
-ghost use Rattle.pages.specs.UploadsPage.{waiting_row, judged_row, uploads_page};
+ghost use Rattle.pages.specs.UploadsPage.{after_blank, names_text, names_cell, waiting_row, judged_row, uploads_page};
 
-use crate::escape::push_markup;
+use crate::escape::{push_markup, push_text};
 use crate::frame::{push_foot, push_head};
 use crate::table::{TABLE_END, push_cell, push_constant_cell};
 use crate::verdict::{meaning, verdict_word};
-use keep::Judgement;
-use para::Text;
+use keep::{Judgement, Lack, Waiting};
 use std::alloc::{AllocError, Global};
-
-/// An upload that waits: the name of its .changes, and the names of the listed files that it lacks, with a blank between each two.
-#[derive(Drop)]
-pub struct Lacking {
-    pub name: Text,
-    pub files: Text,
-}
 
 /// What stands between the heading and the rows of what waits.
 const WAITING_HEAD: &str =
@@ -27,19 +19,51 @@ const WAITING_HEAD: &str =
 const JUDGED_HEAD: &str =
     "</table></div>\n<h2>Judged, the latest first</h2>\n<div class=\"wide\"><table>\n<tr><th>Verdict</th><th>Upload</th><th>What it means</th></tr>\n";
 
+/// Appends the names of files that an upload lacks, each after a blank.
+fn push_more_names(lacks: &[Lack], out: &mut String) -> Result<(), AllocError>
+    ensures { OnOk result (string_bytes out.new ≡ string_bytes out.old ++ flat_map after_blank lacks.now) }
+{
+    for lack in lacks {
+        push_markup(" ", out)?;
+        push_text(lack.name.as_str(), out)?;
+    }
+    Ok(())
+}
+
+/// Appends the names of the files that an upload lacks, with a blank between each two.
+fn push_names(lacks: &[Lack], out: &mut String) -> Result<(), AllocError>
+    ensures { OnOk result (string_bytes out.new ≡ string_bytes out.old ++ names_text lacks.now) }
+{
+    if let Some((first, rest)) = lacks.split_first() {
+        push_text(first.name.as_str(), out)?;
+        push_more_names(rest, out)?;
+    }
+    Ok(())
+}
+
+/// Appends the cell of the files that an upload lacks.
+#[tactic(auto, unfolding(crate::specs::UploadsPage::names_cell))]
+fn push_names_cell(lacks: &[Lack], out: &mut String) -> Result<(), AllocError>
+    ensures { OnOk result (string_bytes out.new ≡ string_bytes out.old ++ names_cell lacks.now) }
+{
+    push_markup("<td>", out)?;
+    push_names(lacks, out)?;
+    push_markup("</td>", out)
+}
+
 /// Appends the row of an upload that waits: its name, and which files it lacks.
 #[tactic(auto, unfolding(crate::specs::UploadsPage::waiting_row))]
-fn push_waiting(upload: &Lacking, out: &mut String) -> Result<(), AllocError>
+fn push_waiting(upload: &Waiting, out: &mut String) -> Result<(), AllocError>
     ensures { OnOk result (string_bytes out.new ≡ string_bytes out.old ++ waiting_row upload.now) }
 {
     push_markup("<tr>", out)?;
     push_cell(upload.name.as_str(), out)?;
-    push_cell(upload.files.as_str(), out)?;
+    push_names_cell(upload.lacks.as_slice(), out)?;
     push_markup("</tr>\n", out)
 }
 
 /// Appends the rows of the uploads that wait, in their order.
-fn push_all_waiting(waiting: &[Lacking], out: &mut String) -> Result<(), AllocError>
+fn push_all_waiting(waiting: &[Waiting], out: &mut String) -> Result<(), AllocError>
     ensures { OnOk result (string_bytes out.new ≡ string_bytes out.old ++ flat_map waiting_row waiting.now) }
 {
     for upload in waiting {
@@ -77,7 +101,7 @@ fn push_all_judged(judged: &[Judgement], out: &mut String) -> Result<(), AllocEr
 #[tactic(auto, unfolding(crate::specs::UploadsPage::uploads_page))]
 pub fn uploads_page(
     alloc: Global,
-    waiting: &[Lacking],
+    waiting: &[Waiting],
     judged: &[Judgement],
 ) -> Result<String, AllocError>
     ensures { IfOk result (λ page. string_bytes page ≡ uploads_page waiting.now judged.now) }

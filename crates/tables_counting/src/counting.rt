@@ -89,7 +89,7 @@ pub fn counts_still<S: Alter>(
 }
 
 /// Whether an entry has arrived and still counts at the moment.
-fn is_had<S: Alter>(
+pub fn is_had<S: Alter>(
     alloc: Global,
     conn: &mut Connection<S>,
     want: &Want,

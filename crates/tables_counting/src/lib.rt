@@ -3,4 +3,4 @@
 
 mod counting;
 
-pub use counting::{counts_still, missing_of_one, span_of};
+pub use counting::{counts_still, is_had, missing_of_one, span_of};

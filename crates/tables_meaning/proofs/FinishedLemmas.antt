@@ -17,7 +17,7 @@ use Rattle.sums.specs.declared.print.Print.{Print}
 use Rattle.sums.proofs.Members.{all_at}
 use Rattle.suites.specs.Shelves.{ShelvesValue}
 use Rattle.suites.specs.Upload.{UploadValue, has_text}
-use Rattle.keep.specs.Book.{Book, due, upload_of, waiting_list}
+use Rattle.keep.specs.Book.{Book, due, unjudged, upload_of, waiting_of}
 use Rattle.tables.specs.Bodies.{body_with, has_print}
 use Rattle.tables.specs.Files.{is_file_at}
 use Rattle.tables.specs.Pieces.{is_of}
@@ -27,8 +27,8 @@ use Rattle.tables.specs.declared.rows.File.{File}
 use Rattle.tables.specs.declared.rows.Piece.{Piece}
 use Rattle.tables.specs.declared.rows.UploadRow.{UploadRow}
 use Rattle.tables_meaning.specs.Finished.{finished, is_of_unfinished, is_unfinished}
-use Rattle.tables_meaning.specs.Kept.{AreArrivals, AreBodies, AreItems, AreNumbered, AreUploads, arrivals_in, bytes_of, files_in, has_body, piece_order, pieces_of, print_at}
-use Rattle.tables_meaning.specs.Reads.{bytes_with, due_in, missing_in, text_in, upload_in, waiting_in, wanting, wanting_rows}
+use Rattle.tables_meaning.specs.Kept.{AreArrivals, AreBodies, AreItems, AreNumbered, AreUploads, arrivals_in, bytes_of, files_in, has_body, piece_order, pieces_of, print_at, wants_in}
+use Rattle.tables_meaning.specs.Reads.{bytes_with, due_in, lacks_in, missing_in, text_in, upload_in, waiting_in, wanting, wanting_rows}
 use Rattle.tables_meaning.specs.Shown.{shown_in}
 use Rattle.tables_meaning.proofs.AmendedLemmas.{found_in}
 use Rattle.tables_meaning.proofs.BodyLemmas.{are_stored, body_found, has_body_if, row_of_found}
@@ -36,7 +36,7 @@ use Rattle.tables_meaning.proofs.DueLemmas.{due_are}
 use Rattle.tables_meaning.proofs.LikeLemmas.{items_like}
 use Rattle.tables_meaning.proofs.RowLists.{all_filtered, find_kept}
 use Rattle.tables_meaning.proofs.Searches.{list_any-filter}
-use Rattle.tables_meaning.proofs.WaitingLemmas.{waiting_list_is}
+use Rattle.tables_meaning.proofs.WaitingLemmas.{waits_are}
 
 pub some_length : (ids : List ℕ) → ids ≢ [] → 0 < length ids
 some_length [] some = absurd (some refl)
@@ -245,6 +245,7 @@ unfolding finished wanting wanting_rows
 dues_finished t b up rise same uploads bodies arrivals =
     (λ i. filter_map (λ x. due_finished t up x i) (wanting_rows t)) ∙ due_are (finished t) b same rise uploads (are_stored (finished t) bodies) arrivals
 
-pub waiting_finished : (t : Tables) (b : Book) → b.arrivals ≡ arrivals_in (finished t) → Rises t.uploads → AreUploads (finished t) b.judged → map (waiting_in t) (wanting_rows t) ≡ waiting_list b
-unfolding finished missing_in wanting wanting_rows
-waiting_finished t b same rise uploads = waiting_list_is (finished t) b same rise uploads
+pub waiting_finished : (t : Tables) (b : Book) → b.arrivals ≡ arrivals_in (finished t) → Rises t.uploads → AreUploads (finished t) b.judged
+    → map (waiting_in (arrivals_in (finished t)) t) (wanting_rows t) ≡ map (waiting_of (arrivals_in (finished t)) b.arrivals) (unjudged b)
+unfolding finished lacks_in wants_in wanting wanting_rows
+waiting_finished t b same rise uploads = waits_are (arrivals_in (finished t)) (finished t) b same rise uploads

@@ -1,5 +1,5 @@
 -- The rows of bodies, arrivals, uploads and what these want can be held.
-use Rattle.std.proofs.Common.{◌≡◌, ◌≢◌, ℕ, zero, suc, ◌+◌, Bool, true, false, not, ◌&&◌, if◌then◌else◌, List, [], ◌∷◌, map, filter, find, Option, Some, None, Result, Ok, Err, IfSome, All, IsTrue, is_some, ◌≤◌, refl, sym, ap, subst, ◌∙◌, arith, nat_eq, slice_get, get_or}
+use Rattle.std.proofs.Common.{◌≡◌, ◌≢◌, ℕ, zero, suc, ◌+◌, Bool, true, false, not, ◌&&◌, if◌then◌else◌, List, [], ◌∷◌, map, filter, find, Option, Some, None, Result, Ok, Err, IfSome, All, IsTrue, is_some, ◌≤◌, refl, sym, ap, ap₂, subst, ◌∙◌, arith, nat_eq, slice_get, get_or}
 use Rattle.std.specs.Prelude.{Contains}
 use Rattle.std.specs.List.{AllByRecursion, cons_option, list_any}
 use Rattle.std.specs.Option.{option_map, option_map_or}
@@ -23,7 +23,7 @@ use Rattle.sums.specs.Prints.{print as print_of}
 use Rattle.sums.specs.declared.entries.Entry.{Entry}
 use Rattle.sums.specs.declared.entries.ListKind.TheVariants.{Changes}
 use Rattle.suites.proofs.ListMembers.{from_filter, to_filter}
-use Rattle.keep.specs.Book.{Candidate, candidate_of, candidates, is_judged, latest}
+use Rattle.keep.specs.Book.{Candidate, candidate_of, candidates, is_arrival_of, is_body_of, is_judged, is_there, latest}
 use Rattle.keep.specs.Keeping.{IsDeliverable}
 use Rattle.keep.specs.declared.arrival.Arrival.{Arrival}
 use Rattle.keep.specs.declared.change.Judgement.{Judgement}
@@ -108,9 +108,14 @@ module _ (t : Tables) (judged : List Judgement) (arrivals : AreArrivals t) (uplo
       }
 
   -- what it wants is listed in the .changes
-  wants_real : (x : ℕ × UploadRow) → IsOf x → (w : Want) → Contains (rows_of t.wants) w → nat_eq w.upload x.0 ≡ true → IsRealWant w
+  record IsListed (c : Candidate) (w : Want) : Type 0 where
+    entry : Entry
+    within : Contains c.changes.entries entry
+    same : wanted (arrivals_in t) entry ≡ (w.name, w.print, w.here)
+
+  listed_in : (x : ℕ × UploadRow) → (is : IsOf x) → (w : Want) → Contains (rows_of t.wants) w → nat_eq w.upload x.0 ≡ true → IsListed is.of w
   unfolding wants_in
-  wants_real x is w at its =
+  listed_in x is w at its =
       let entries = is.of.changes.entries in
       let rows = map (λ (v : Want). (v.name, v.print, v.here)) (filter (is_wanted_by x.0) (rows_of t.wants)) in
       let asked = map (wanted (arrivals_in t)) entries in
@@ -120,20 +125,44 @@ module _ (t : Tables) (judged : List Judgement) (arrivals : AreArrivals t) (uplo
       let from = from_map (wanted (arrivals_in t)) (w.name, w.print, w.here) entries
       (Contains-permutation (sorted_by want_order asked) asked (w.name, w.print, w.here) (IsPermutation-sort_by want_order want_order_total asked)
       (subst (λ ws. Contains ws (w.name, w.print, w.here)) (sym (ap (λ r. r.1) is.request)) listed)) in
-      let file = all_at (IsFile greatest_size Changes) entries from.0 (changes_of_read _ is.of.body is.of.changes is.read.changes).made.entries.listed.each from.1 in
-      let name : from.0.name ≡ w.name = ap (λ v. v.0) from.2 in
-      let print : from.0.print ≡ w.print = ap (λ v. v.1) from.2 in
+      record { entry = from.0; within = from.1; same = from.2 }
+
+  want_real : (c : Candidate) → IsRead c → (w : Want) → IsListed c w → IsRealWant w
+  want_real c read w listed =
+      let file = all_at (IsFile greatest_size Changes) c.changes.entries listed.entry (changes_of_read _ c.body c.changes read.changes).made.entries.listed.each listed.within in
+      let name : listed.entry.name ≡ w.name = ap (λ v. v.0) listed.same in
+      let print : listed.entry.print ≡ w.print = ap (λ v. v.1) listed.same in
       record {
         name = ascii-IsUtf8 w.name (file_name_ascii w.name (subst (λ n. is_file_name n ≡ true) name file.name));
-        print = subst IsRealPrint print (real_file from.0 file);
+        print = subst IsRealPrint print (real_file listed.entry file);
       }
 
-  pub real_wants : All IsRealWant (rows_of t.wants)
-  real_wants = all_from IsRealWant (rows_of t.wants) (λ w at.
+  want_here : (c : Candidate) → (w : Want) → IsListed c w → w.here ≡ list_any (is_arrival_of w.name w.print) (arrivals_in t)
+  unfolding is_there is_body_of
+  want_here c w listed =
+      sym (ap (λ v. v.2) listed.same)
+      ∙ ap₂ (λ name print. list_any (is_arrival_of name print) (arrivals_in t)) (ap (λ v. v.0) listed.same) (ap (λ v. v.1) listed.same)
+
+  -- the .changes that a row is listed in
+  record IsAsked (w : Want) : Type 0 where
+    of : Candidate
+    read : IsRead of
+    listed : IsListed of w
+
+  asked_for : (w : Want) → Contains (rows_of t.wants) w → IsAsked w
+  asked_for w at =
       let owner = any_some (λ x. nat_eq x.0 w.upload && not (has_place x.1)) t.uploads (all_at (λ v. IsTrue (list_any (λ x. nat_eq x.0 v.upload && not (has_place x.1)) t.uploads)) (rows_of t.wants) w uploads.owned at) in
       let x = owner.0 in
       let parts = and_parts (nat_eq x.0 w.upload) (not (has_place x.1)) owner.2 in
-      wants_real x (waiting_is x owner.1 (denied (has_place x.1) parts.1)) w at (eq-eqb w.upload x.0 (sym (eqb-true x.0 w.upload parts.0))))
+      let is = waiting_is x owner.1 (denied (has_place x.1) parts.1) in
+      record { of = is.of; read = is.read; listed = listed_in x is w at (eq-eqb w.upload x.0 (sym (eqb-true x.0 w.upload parts.0))) }
+
+  pub real_wants : All IsRealWant (rows_of t.wants)
+  real_wants = all_from IsRealWant (rows_of t.wants) (λ w at. let asked = asked_for w at in want_real asked.of asked.read w asked.listed)
+
+  -- what is wanted is here exactly if it has arrived
+  pub wants_here : All (λ w. w.here ≡ list_any (is_arrival_of w.name w.print) (arrivals_in t)) (rows_of t.wants)
+  wants_here = all_from (λ w. w.here ≡ list_any (is_arrival_of w.name w.print) (arrivals_in t)) (rows_of t.wants) (λ w at. let asked = asked_for w at in want_here asked.of w asked.listed)
 
   -- ---- uploads with a verdict
 

@@ -1,19 +1,25 @@
 -- What the uploads that are not judged wait for, as the book has it and as the tables do.
-use Rattle.std.proofs.Common.{◌≡◌, ℕ, Bool, not, List, map, filter, length, ap, sym, ◌∙◌}
+use Rattle.std.proofs.Common.{◌≡◌, ℕ, Bool, not, if◌then◌else◌, List, [], ◌∷◌, map, filter, length, refl, ap, sym, ◌∙◌}
+use Rattle.std.specs.Ordering.{is_gt}
+use Rattle.std.specs.declared.cmp.Ordering.{Ordering}
 use Rattle.std.proofs.lemmas.List.{length-map}
 use Rattle.std.proofs.lemmas.List.Sorted.{IsPermutation-sym, length_permutation}
-use Rattle.sqlite_keyed.specs.Lists.{sort_by as sorted_by}
+use Rattle.sqlite_keyed.specs.Lists.{insert_sorted as put_by, sort_by as sorted_by}
 use Rattle.sqlite_keyed.proofs.ListLemmas.{IsPermutation-filter, filter-map, map-map, map_same}
-use Rattle.sqlite_keyed.proofs.SortLemmas.{IsPermutation-sort_by}
+use Rattle.sqlite_keyed.proofs.SortLemmas.{IsPermutation-sort_by, sort_by-map}
+use Rattle.sums.specs.Prints.{print as print_of}
+use Rattle.sums.specs.declared.entries.Entry.{Entry}
 use Rattle.sums.specs.declared.print.Print.{Print}
-use Rattle.keep.specs.Book.{Book, Candidate, is_there, missing, unjudged, waiting_list}
+use Rattle.suites.specs.Keys.{text_order}
+use Rattle.keep.specs.Book.{Book, Candidate, by_name, is_body_of, is_there, lacks_of, missing, put_by_name, unjudged, waiting_of}
 use Rattle.keep.specs.declared.arrival.Arrival.{Arrival}
+use Rattle.keep.specs.declared.change.Lack.{Lack}
 use Rattle.keep.specs.declared.change.Waiting.{Waiting}
 use Rattle.tables.specs.Rows.{Rises, Tables, rows_of}
 use Rattle.tables.specs.Wants.{is_wanted_by}
 use Rattle.tables.specs.declared.rows.Want.{Want}
-use Rattle.tables_meaning.specs.Kept.{AreUploads, arrivals_in, request_in, request_of, want_order, wanted, wants_in}
-use Rattle.tables_meaning.specs.Reads.{missing_in, wanting_rows, waiting_in}
+use Rattle.tables_meaning.specs.Kept.{AreUploads, Request, arrivals_in, request_in, request_of, want_order, wanted, wants_in}
+use Rattle.tables_meaning.specs.Reads.{lack_from, lacks_in, missing_in, waiting_in, wanting_rows}
 use Rattle.tables_meaning.proofs.NumberOrders.{want_order_total}
 use Rattle.tables_meaning.proofs.OrderLemmas.{unjudged_requests}
 
@@ -41,16 +47,42 @@ missing-wants arrivals c =
     sym (length-map (filter (λ e. not (is_there arrivals e)) c.changes.entries) (wanted arrivals)) ∙ ap length (sym (filter-map (λ w. not w.2) (wanted arrivals) c.changes.entries))
     ∙ sym (as_many (map (wanted arrivals) c.changes.entries))
 
--- what a request waits for
-abbrev waiting_for : (List ℕ × Print) × List (List ℕ × Print × Bool) → Waiting
-waiting_for r = record { name = r.0.0; missing = missing_wants r.1 }
+-- ---- what is lacking
 
-pub waiting_list_is : (t : Tables) (b : Book) → b.arrivals ≡ arrivals_in t → Rises t.uploads → AreUploads t b.judged → map (waiting_in t) (wanting_rows t) ≡ waiting_list b
-unfolding waiting_list
-waiting_list_is t b same up uploads =
-    map_same (waiting_in t) (λ x. waiting_for (request_in t x)) (λ x. ap (λ n. record { name = x.1.name; missing = n }) (missing_in-wants t x.0)) (wanting_rows t)
-    ∙ sym (map-map waiting_for (request_in t) (wanting_rows t))
-    ∙ ap (map waiting_for) (unjudged_requests t b same up uploads)
-    ∙ map-map waiting_for (request_of b.arrivals) (unjudged b)
-    ∙ map_same (λ c. waiting_for (request_of b.arrivals c)) (λ c. record { name = c.name; missing = length (missing b.arrivals c) })
-    (λ c. ap (λ n. record { name = c.name; missing = n }) (sym (missing-wants b.arrivals c))) (unjudged b)
+-- the order of the listed files: by name
+abbrev entry_order : Entry → Entry → Ordering
+entry_order e f = text_order e.name f.name
+
+put_by_name-put_by : (e : Entry) (es : List Entry) → put_by_name e es ≡ put_by entry_order e es
+put_by_name-put_by e [] = refl
+put_by_name-put_by e (f ∷ fs) = ap (λ r. if is_gt (text_order e.name f.name) then f ∷ r else e ∷ f ∷ fs) (put_by_name-put_by e fs)
+
+by_name-sorted_by : (es : List Entry) → by_name es ≡ sorted_by entry_order es
+by_name-sorted_by [] = refl
+by_name-sorted_by (e ∷ es) = put_by_name-put_by e (by_name es) ∙ ap (put_by entry_order e) (by_name-sorted_by es)
+
+-- what is lacking of what a request asks for
+abbrev lacking : List Arrival → List (List ℕ × Print × Bool) → List Lack
+lacking all wants = map (lack_from all) (filter (λ w. not w.2) wants)
+
+lacking-lacks : (all now : List Arrival) (entries : List Entry) → lacking all (sorted_by want_order (map (wanted now) entries)) ≡ lacks_of all now entries
+unfolding lacks_of is_there is_body_of
+lacking-lacks all now entries =
+    ap (lacking all) (sort_by-map want_order (wanted now) entries ∙ ap (map (wanted now)) (sym (by_name-sorted_by entries)))
+    ∙ ap (map (lack_from all)) (filter-map (λ w. not w.2) (wanted now) (by_name entries))
+    ∙ map-map (lack_from all) (wanted now) (filter (λ e. not (is_there now e)) (by_name entries))
+
+-- what a request waits for
+abbrev waiting_for : List Arrival → Request → Waiting
+waiting_for all r = record { name = r.0.0; print = r.0.1; lacks = lacking all r.1 }
+
+-- the uploads that wait are the same in both, in the same order, and lack the same
+pub waits_are : (all : List Arrival) (t : Tables) (b : Book) → b.arrivals ≡ arrivals_in t → Rises t.uploads → AreUploads t b.judged
+    → map (waiting_in all t) (wanting_rows t) ≡ map (waiting_of all b.arrivals) (unjudged b)
+unfolding lacks_in
+waits_are all t b same up uploads =
+    sym (map-map (waiting_for all) (request_in t) (wanting_rows t))
+    ∙ ap (map (waiting_for all)) (unjudged_requests t b same up uploads)
+    ∙ map-map (waiting_for all) (request_of b.arrivals) (unjudged b)
+    ∙ map_same (λ c. waiting_for all (request_of b.arrivals c)) (waiting_of all b.arrivals)
+    (λ c. ap (λ lacks. record { name = c.name; print = print_of c.body; lacks = lacks }) (lacking-lacks all b.arrivals c.changes.entries)) (unjudged b)

@@ -10,7 +10,7 @@ use Rattle.rules.specs.declared.suite.Suite.{Suite}
 use Rattle.suites.specs.Shelves.{ShelvesValue}
 use Rattle.texts.specs.Indices.{PathText, all_texts, suite_path, suite_texts}
 use Rattle.texts.specs.Places.{place_entry, places_in}
-use Rattle.texts.specs.declared.places.Place.{Place}
+use Rattle.texts.specs.declared.places.IndexPlace.{IndexPlace}
 use Rattle.tables.specs.Rows.{Tables, Holds, no_rows, with_meta, with_text, with_date}
 use Rattle.tables.specs.Schema.{no_schema}
 use Rattle.tables.specs.declared.rows.Date.{Date}
@@ -53,7 +53,7 @@ abbrev pub from_root : Suite → PathText → PathText
 from_root s e = (suite_path s e.0, e.1)
 
 -- the indices at places of the suite at a position
-abbrev pub placed_texts : ShelvesValue → ℕ → Suite → List Place → List PathText
+abbrev pub placed_texts : ShelvesValue → ℕ → Suite → List IndexPlace → List PathText
 placed_texts shelves position s places = map (λ p. from_root s (place_entry shelves position p)) places
 
 -- all indices of the suite at a position, except Release

@@ -27,6 +27,7 @@ use Rattle.keep.specs.Keeping.{IsDeliverable, sign_of}
 use Rattle.keep.specs.declared.arrival.Arrival.{Arrival}
 use Rattle.keep.specs.declared.change.Judgement.{Judgement}
 use Rattle.tables.specs.Arrivals.{is_arrival}
+use Rattle.tables.specs.Bodies.{is_body_there}
 use Rattle.tables.specs.Files.{is_file_at}
 use Rattle.tables.specs.Items.{is_item}
 use Rattle.tables.specs.Pieces.{is_of}
@@ -34,6 +35,7 @@ use Rattle.tables.specs.Real.{IsRealPrint}
 use Rattle.tables.specs.Refs.{is_ref_of}
 use Rattle.tables.specs.Rows.{Tables, Rises, rows_of, Numbered}
 use Rattle.tables.specs.Uploads.{is_judged as has_place}
+pub use Rattle.tables.specs.Uploads.{sign_in}
 use Rattle.tables.specs.Wants.{is_wanted_by}
 use Rattle.tables.specs.declared.rows.ArrivalRow.{ArrivalRow}
 use Rattle.tables.specs.declared.rows.Date.{Date}
@@ -80,7 +82,7 @@ pieces_for id bytes = map (λ n. record { body = id; number = n + 1; bytes = pie
 
 -- there is a body of this number
 unfoldable pub has_body : Tables → ℕ → Bool
-has_body t id = list_any (λ x. nat_eq x.0 id) t.bodies
+has_body t id = is_body_there t id
 
 -- the print of the body of a number among these
 abbrev pub print_in : Numbered BodyRow → ℕ → Option Print
@@ -129,10 +131,6 @@ pub record AreArrivals (t : Tables) : Type 0 where
   pub deliverable : All (λ a. IsDeliverable a.name a.body × (a.moment ≤ latest)) (arrivals_in t)
 
 -- ---- uploads and what they want
-
--- the name and the print of an upload
-abbrev pub sign_in : UploadRow → List ℕ × Print
-sign_in u = (u.name, u.print)
 
 -- the order of what an upload wants: by name
 abbrev pub want_order : List ℕ × Print × Bool → List ℕ × Print × Bool → Ordering

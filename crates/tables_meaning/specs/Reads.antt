@@ -1,5 +1,5 @@
 -- The words of the reads: the uploads that want something, in the order of judging, and those that are due.
-use Rattle.std.specs.Prelude.{IsTrue, ℕ, nat_eq, not, if◌then◌else◌, List, [], map, filter, find, length, Option, None, option_map, unwrap_or}
+use Rattle.std.specs.Prelude.{IsTrue, ℕ, Bool, nat_eq, not, if◌then◌else◌, List, [], map, filter, find, length, Option, None, option_map, unwrap_or}
 use Rattle.std.specs.List.{list_any}
 use Rattle.std.specs.Option.{option_and_then}
 use Rattle.std.specs.Result.{result_ok}
@@ -10,13 +10,15 @@ use Rattle.sqlite.specs.State.{State, IsUnchanged}
 use Rattle.sums.specs.declared.entries.Entry.{Entry}
 use Rattle.sums.specs.declared.print.Print.{Print}
 use Rattle.suites.specs.Upload.{UploadValue, has_text}
-use Rattle.keep.specs.Book.{judging_order}
+use Rattle.keep.specs.Book.{is_arrival_of, judging_order}
+use Rattle.keep.specs.declared.arrival.Arrival.{Arrival}
+use Rattle.keep.specs.declared.change.Lack.{Lack}
 use Rattle.keep.specs.declared.change.Waiting.{Waiting}
 use Rattle.tables.specs.Bodies.{body_with}
 use Rattle.tables.specs.Rows.{Tables, Numbered, Stands, rows_of}
 use Rattle.tables.specs.Wants.{is_wanted_by, wants_behind}
 use Rattle.tables.specs.declared.rows.UploadRow.{UploadRow}
-use Rattle.tables_meaning.specs.Kept.{bytes_of, sign_in}
+use Rattle.tables_meaning.specs.Kept.{bytes_of, sign_in, wants_in}
 -- ---- the order of judging
 
 -- `put_by` puts one more in its place, before those that tie with it, and `sorted_by` one after the other.
@@ -44,9 +46,17 @@ next_wanting_in t after = find (λ x. wants_behind after (rows_of t.wants) x.0) 
 unfoldable pub missing_in : Tables → ℕ → ℕ
 missing_in t id = length (filter (λ w. not w.here) (filter (is_wanted_by id) (rows_of t.wants)))
 
--- an upload that is not judged, with the number of its entries that have not arrived
-abbrev pub waiting_in : Tables → ℕ × UploadRow → Waiting
-waiting_in t x = record { name = x.1.name; missing = missing_in t x.0 }
+-- what is said of an entry of which no arrival counts: it is ended if it is among all arrivals
+abbrev pub lack_from : List Arrival → List ℕ × Print × Bool → Lack
+lack_from all w = record { name = w.0; print = w.1; is_ended = list_any (is_arrival_of w.0 w.1) all }
+
+-- what is lacking of an upload, in the order of names: its entries that are not here
+unfoldable pub lacks_in : List Arrival → Tables → ℕ → List Lack
+lacks_in all t id = map (lack_from all) (filter (λ w. not w.2) (wants_in t id))
+
+-- an upload that is not judged, with what it lacks
+abbrev pub waiting_in : List Arrival → Tables → ℕ × UploadRow → Waiting
+waiting_in all t x = record { name = x.1.name; print = x.1.print; lacks = lacks_in all t x.0 }
 
 -- ---- the uploads that are due
 

@@ -2,14 +2,15 @@
 
 use crate::outcomes::report_text;
 use crate::steps::{moment_of, path_of};
-use inquiry::{Lack, WaitingUpload, lacks_of, read_changes, read_upload, waiting_uploads};
-use keep::{ArrivedFile, Counting, Judgement, Keeper};
+use inquiry::{came_instead, read_upload};
+use keep::{ArrivedFile, Counting, Judgement, Keeper, LATEST, Lack, Waiting};
 use output::listing::shown_lines;
 use queue::{Archive, Fault, Report};
 use reasons::{Named, Reason, reason_of};
 use rules::Config;
 use std::alloc::{AllocError, Global};
 use suites::{Shelves, Upload};
+use sums::Print;
 use test_rows::{Unread, text_of};
 
 /// A line for each item that a suite shows.
@@ -36,12 +37,17 @@ pub fn list<K: Keeper>(
     report_text(alloc, listed(alloc, archive, path_of(words)?))
 }
 
-/// Adds the lines on a listed file that an upload lacks.
-fn push_lack(alloc: Global, lines: &mut Vec<String>, lack: &Lack) -> Result<(), AllocError> {
+/// Adds the lines on a listed file that an upload lacks, and on what came in its place.
+fn push_lack(
+    alloc: Global,
+    lines: &mut Vec<String>,
+    lack: &Lack,
+    came: &[Print],
+) -> Result<(), AllocError> {
     let name = lack.name.as_str();
     let word = if lack.is_ended { "ended" } else { "lacks" };
     lines.push(format!(in alloc; "{word} {name}")?)?;
-    for print in lack.came.as_slice() {
+    for print in came {
         let size = print.size;
         lines.push(format!(in alloc; "came {name} {size}")?)?;
     }
@@ -49,21 +55,17 @@ fn push_lack(alloc: Global, lines: &mut Vec<String>, lack: &Lack) -> Result<(), 
 }
 
 /// Adds the lines on an upload that waits.
-fn push_lacks<K: Keeper>(
+fn push_lacks(
     alloc: Global,
     lines: &mut Vec<String>,
-    archive: &mut Archive<K>,
     arrived: &[ArrivedFile],
     counting: Counting,
-    upload: &WaitingUpload,
-) -> Result<(), Fault> {
-    let name = upload.name.as_str();
-    let Some(changes) = read_changes(alloc, &mut archive.keeper, name, &upload.print)? else {
-        return Ok(());
-    };
-    let lacks = lacks_of(alloc, arrived, counting, changes.entries())?;
-    for lack in &lacks {
-        push_lack(alloc, lines, lack)?;
+    upload: &Waiting,
+) -> Result<(), AllocError> {
+    let lacks = upload.lacks.as_slice();
+    let came = came_instead(alloc, arrived, counting, lacks)?;
+    for (lack, prints) in lacks.iter().zip(&came) {
+        push_lack(alloc, lines, lack, prints.as_slice())?;
     }
     if lacks.is_empty() {
         lines.push(String::from_str(alloc, "whole")?)?;
@@ -78,14 +80,16 @@ fn lacking<K: Keeper>(
     name: &str,
     moment: u64,
 ) -> Result<Report, Fault> {
+    if moment > LATEST {
+        return Err(Fault::Moment);
+    }
     let counting = Counting::new(archive.keeper.config(), moment);
     let arrived = archive.keeper.arrivals(alloc)?;
-    let judged = archive.keeper.verdicts(alloc)?;
-    let waiting = waiting_uploads(alloc, &arrived, &judged, counting)?;
+    let waiting = archive.keeper.waiting(alloc, moment)?;
     let mut lines = Vec::new(alloc);
     for upload in &waiting {
         if upload.name.as_str() == name {
-            push_lacks(alloc, &mut lines, archive, &arrived, counting, upload)?;
+            push_lacks(alloc, &mut lines, &arrived, counting, upload)?;
         }
     }
     Ok(Report { lines })

@@ -2,7 +2,7 @@
 
 use crate::readers::Pieces;
 use desk::Desk;
-use desk::head::{Refusal, Wanted, read_wanted};
+use desk::head::{Ask, Refusal, read_wanted};
 use desk::request::{Request, read_request};
 use queue::ReaderFailed;
 use std::alloc::{AllocError, Global};
@@ -79,20 +79,20 @@ pub fn status(alloc: Global, words: &[Vec<u8>]) -> Result<Vec<u8>, Unread> {
 }
 
 /// Adds a command and its arguments.
-fn add_wanted(text: &mut String, wanted: &Wanted) -> Result<(), AllocError> {
+fn add_wanted(text: &mut String, wanted: &Ask) -> Result<(), AllocError> {
     match wanted {
-        Wanted::Deliver { name, length } => write!(text, "deliver {name:?} {length}"),
-        Wanted::Run => text.push_str("run"),
-        Wanted::Copy { from, to, source } => write!(text, "copy {from:?} {to:?} {source:?}"),
-        Wanted::Fetch { path, is_pool } => {
+        Ask::Deliver { name, length } => write!(text, "deliver {name:?} {length}"),
+        Ask::Run => text.push_str("run"),
+        Ask::Copy { from, to, source } => write!(text, "copy {from:?} {to:?} {source:?}"),
+        Ask::Fetch { path, is_pool } => {
             let kind = if *is_pool { "pool" } else { "dists" };
             write!(text, "fetch {path:?} {kind}")
         }
-        Wanted::Waiting => text.push_str("waiting"),
-        Wanted::Clean => text.push_str("clean"),
-        Wanted::Verdicts => text.push_str("verdicts"),
-        Wanted::Remove { suite, name } => write!(text, "remove {suite:?} {name:?}"),
-        Wanted::Promote { from, to } => write!(text, "promote {from:?} {to:?}"),
+        Ask::Waiting => text.push_str("waiting"),
+        Ask::Clean => text.push_str("clean"),
+        Ask::Verdicts => text.push_str("verdicts"),
+        Ask::Remove { suite, name } => write!(text, "remove {suite:?} {name:?}"),
+        Ask::Promote { from, to } => write!(text, "promote {from:?} {to:?}"),
     }
 }
 
@@ -109,7 +109,7 @@ fn add_refusal(text: &mut String, refusal: Refusal) -> Result<(), AllocError> {
 }
 
 /// Adds what was read of a head.
-fn add_read(text: &mut String, read: Result<Wanted, Refusal>) -> Result<(), AllocError> {
+fn add_read(text: &mut String, read: Result<Ask, Refusal>) -> Result<(), AllocError> {
     match read {
         Ok(wanted) => add_wanted(text, &wanted),
         Err(refusal) => add_refusal(text, refusal),

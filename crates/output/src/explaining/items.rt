@@ -1,16 +1,16 @@
 //! The items that an accepted upload gave its suite, as lines.
 
 use para::Text;
-use records::{Changes, Dsc, RecordFault, Sidecar};
+use records::{Changes, Sidecar};
 use rules::Config;
 use std::alloc::{AllocError, Global};
-use suites::{Item, Kind, ShelfKey, Shelves, Upload, deb_name};
-use sums::{Entry, Print};
+use suites::{Item, Kind, ShelfKey, Shelves, Upload, deb_name, dsc_within, sidecar_in};
+use sums::{Entry, GREATEST_SIZE, Print};
 use vers::Version;
 
 /// A suite, by its position and its codename, and what all suites show.
 #[derive(Clone, Copy)]
-struct Place<'p> {
+struct SuiteView<'p> {
     suite: usize,
     codename: &'p str,
     shelves: &'p Shelves,
@@ -48,7 +48,7 @@ fn state_of(
 /// The line of an item: what became of it, the codename of its suite, its package, version and architecture.
 fn item_line(
     alloc: Global,
-    place: Place<'_>,
+    place: SuiteView<'_>,
     key: &ShelfKey,
     version: &Version,
     print: Option<Print>,
@@ -78,15 +78,13 @@ fn key_of(
 /// The line of the source whose .dsc is this text. There is no line if the text is not a record.
 fn source_line(
     alloc: Global,
-    place: Place<'_>,
+    place: SuiteView<'_>,
     changes: &Changes,
     entry: &Entry,
     text: &[u8],
 ) -> Result<Option<String>, AllocError> {
-    let dsc = match Dsc::read(alloc, text) {
-        Ok(dsc) => dsc,
-        Err(RecordFault::OutOfMemory) => return Err(AllocError),
-        Err(_) => return Ok(None),
+    let Some(dsc) = dsc_within(alloc, text, GREATEST_SIZE)? else {
+        return Ok(None);
     };
     let key = key_of(alloc, place.suite, Kind::Source, changes.source(), "source")?;
     let line = item_line(alloc, place, &key, dsc.version(), Some(entry.print))?;
@@ -111,14 +109,12 @@ fn package_print(
 /// The line of a package whose sidecar is this text. There is no line if the text is not a record.
 fn package_line(
     alloc: Global,
-    place: Place<'_>,
+    place: SuiteView<'_>,
     changes: &Changes,
     text: &[u8],
 ) -> Result<Option<String>, AllocError> {
-    let sidecar = match Sidecar::read(alloc, text) {
-        Ok(sidecar) => sidecar,
-        Err(RecordFault::OutOfMemory) => return Err(AllocError),
-        Err(_) => return Ok(None),
+    let Some(sidecar) = sidecar_in(alloc, text)? else {
+        return Ok(None);
     };
     let (package, architecture) = (sidecar.package(), sidecar.architecture());
     let key = key_of(alloc, place.suite, Kind::Binary, package, architecture)?;
@@ -139,7 +135,7 @@ fn push_some(lines: &mut Vec<String>, line: Option<String>) -> Result<(), AllocE
 fn push_items(
     alloc: Global,
     lines: &mut Vec<String>,
-    place: Place<'_>,
+    place: SuiteView<'_>,
     upload: &Upload,
 ) -> Result<(), AllocError> {
     let changes = upload.changes();
@@ -169,7 +165,7 @@ pub fn item_lines(
     if let Some(suite) = config.suite_for(upload.changes().distribution())
         && let Some(taking) = config.suites().get(suite)
     {
-        let place = Place {
+        let place = SuiteView {
             suite,
             codename: taking.codename.as_str(),
             shelves,

@@ -1,32 +1,43 @@
 //! What a waiting upload lacks, as lines and as JSON.
 
+ghost use Rattle.std.specs.Prelude.{◌≡◌, length};
+
 use crate::explaining::words::{file_line, upload_line};
-use inquiry::{Lack, WaitingUpload};
+use keep::{Lack, Waiting};
+use para::Listed;
 use serde_json::{Value, json};
 use std::alloc::{AllocError, Global};
 use sums::Print;
 
 /// Adds the lines on a listed file that an upload lacks: that it did not come, or came and no longer counts, and what came in its place.
-fn push_lack(alloc: Global, lines: &mut Vec<String>, lack: &Lack) -> Result<(), AllocError> {
+fn push_lack(
+    alloc: Global,
+    lines: &mut Vec<String>,
+    lack: &Lack,
+    came: &[Print],
+) -> Result<(), AllocError> {
     let name = lack.name.as_str();
     let word = if lack.is_ended { " ended" } else { " lacks" };
     lines.push(file_line(alloc, word, name, &lack.print)?)?;
-    for print in lack.came.as_slice() {
+    for print in came {
         lines.push(file_line(alloc, " came", name, print)?)?;
     }
     Ok(())
 }
 
-/// The lines on an upload that waits, and on what it lacks.
+/// The lines on an upload that waits, and on what it lacks, with what came in place of each.
 pub fn waiting_lines(
     alloc: Global,
-    upload: &WaitingUpload,
-    lacks: &[Lack],
-) -> Result<Vec<String>, AllocError> {
+    upload: &Waiting,
+    came: &[Listed<Print>],
+) -> Result<Vec<String>, AllocError>
+    requires { length came.now ≡ length upload.now.lacks }
+{
     let mut lines = Vec::new(alloc);
     lines.push(upload_line(alloc, "waits", upload.name.as_str(), &upload.print)?)?;
-    for lack in lacks {
-        push_lack(alloc, &mut lines, lack)?;
+    let lacks = upload.lacks.as_slice();
+    for (lack, prints) in lacks.iter().zip(came) {
+        push_lack(alloc, &mut lines, lack, prints.as_slice())?;
     }
     if lacks.is_empty() {
         lines.push(String::from_str(alloc, " whole")?)?;
@@ -53,33 +64,41 @@ fn lacks_value(alloc: Global, lacks: &[Lack], is_ended: bool) -> Result<Value, A
 }
 
 /// Adds the other contents that came under the name of a listed file.
-fn push_came(alloc: Global, values: &mut Vec<Value>, lack: &Lack) -> Result<(), AllocError> {
-    for print in lack.came.as_slice() {
+fn push_came(
+    alloc: Global,
+    values: &mut Vec<Value>,
+    lack: &Lack,
+    came: &[Print],
+) -> Result<(), AllocError> {
+    for print in came {
         values.push(file_value(alloc, lack.name.as_str(), print)?)?;
     }
     Ok(())
 }
 
 /// The other contents that came under names of listed files.
-fn came_value(alloc: Global, lacks: &[Lack]) -> Result<Value, AllocError> {
+fn came_value(alloc: Global, lacks: &[Lack], came: &[Listed<Print>]) -> Result<Value, AllocError> {
     let mut values = Vec::new(alloc);
-    for lack in lacks {
-        push_came(alloc, &mut values, lack)?;
+    for (lack, prints) in lacks.iter().zip(came) {
+        push_came(alloc, &mut values, lack, prints.as_slice())?;
     }
     Ok(Value::Array(values))
 }
 
-/// The object of an upload that waits, as text on one line.
+/// The object of an upload that waits, with what came in place of each file that it lacks, as text on one line.
 pub fn waiting_json(
     alloc: Global,
-    upload: &WaitingUpload,
-    lacks: &[Lack],
-) -> Result<String, AllocError> {
+    upload: &Waiting,
+    came: &[Listed<Print>],
+) -> Result<String, AllocError>
+    requires { length came.now ≡ length upload.now.lacks }
+{
     let name = upload.name.as_str();
     let digest = hex::encode(alloc, upload.print.sha256.as_slice())?;
+    let lacks = upload.lacks.as_slice();
     let lacking = lacks_value(alloc, lacks, false)?;
     let ended = lacks_value(alloc, lacks, true)?;
-    let came = came_value(alloc, lacks)?;
+    let came = came_value(alloc, lacks, came)?;
     let value = json!(in alloc; {
         "upload": name,
         "sha256": &digest,

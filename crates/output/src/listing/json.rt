@@ -89,7 +89,7 @@ pub fn shown_json(alloc: Global, shelves: &Shelves, suite: usize) -> Result<Vec<
 fn waiting_value(alloc: Global, waiting: &Waiting) -> Result<Value, AllocError>
     ensures { IfOk result (λ value. view value ≡ waiting_data waiting.now) }
 {
-    let (name, missing) = (waiting.name.as_str(), waiting.missing as u64);
+    let (name, missing) = (waiting.name.as_str(), waiting.lacks.as_slice().len() as u64);
     json!(in alloc; {"upload": name, "missing": missing})
 }
 

@@ -25,11 +25,11 @@ returns-then-is_judged c = λ rest so_far.
 pub returns-in_ok-insert : goal.returns-in_ok-insert
 returns-in_ok-insert c = λ rest so_far.
     let one = candidate_view c.in-Some.one in
-    let place = c.place-place.result in
+    let position = c.position_in_order-position.result in
     let found = c.args.found.now.items in
     ap (map candidate_view) c.in_ok-insert.ensures.items
-    ∙ map-append candidate_view (take place found) (c.in-Some.one ∷ drop place found)
-    ∙ sym (subst (λ xs. put_in_order one (map candidate_view xs) ≡ map candidate_view (take place xs) ++ one ∷ map candidate_view (drop place xs)) c.deref.ensures.value c.place-place.ensures.placed)
+    ∙ map-append candidate_view (take position found) (c.in-Some.one ∷ drop position found)
+    ∙ sym (subst (λ xs. put_in_order one (map candidate_view xs) ≡ map candidate_view (take position xs) ++ one ∷ map candidate_view (drop position xs)) c.deref.ensures.value c.position_in_order-position.ensures.placed)
     ∙ ap (put_in_order one) so_far
     ∙ ap (λ o. with_candidate o (unjudged_in (counted c.args.counting rest) c.args.judged.now)) (ap (option_map candidate_view) (sym c.in-Some.is) ∙ c.in_ok-one.ensures)
     ∙ sym (unjudged_more c.args.arrival.now (counted c.args.counting rest) c.args.judged.now (sym c.is_judged.ensures ∙ c.if-is_judged.false))

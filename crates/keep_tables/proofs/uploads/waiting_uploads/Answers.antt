@@ -25,51 +25,51 @@ pub loop-id-preserved : goal.loop-id-preserved
 loop-id-preserved g c =
     let old = state g.S.Store c.args.conn.now in
     let mid = state g.S.Store c.loop-id.conn in
-    let new = state g.S.Store c.missing_of.new.conn in (
+    let new = state g.S.Store c.lacks_of.new.conn in (
     record {
-      idle = λ was. c.missing_of.ensures.idle (c.loop-id.invariant.idle was);
-      survives = survives_after old mid new (λ clean t was. (c.loop-id.invariant.read clean t was).1) c.loop-id.invariant.survives c.missing_of.ensures.survives;
+      idle = λ was. c.lacks_of.ensures.idle (c.loop-id.invariant.idle was);
+      survives = survives_after old mid new (λ clean t was. (c.loop-id.invariant.read clean t was).1) c.loop-id.invariant.survives c.lacks_of.ensures.survives;
       read = λ clean t was.
-          let early : HasCleanDisk mid = omega (arith, c.missing_of.ensures.survives.clean, clean) in
+          let early : HasCleanDisk mid = omega (arith, c.lacks_of.ensures.survives.clean, clean) in
           let before = c.loop-id.invariant.read early t was in
-          let read = c.in_ok-missing.ensures.ok clean t (held_after old mid before.1 t was) in (
+          let read = c.in_ok-lacks.ensures.ok clean t (held_after old mid before.1 t was) in (
             made_more (waiting_at c.args.span c.args.moment t) c.loop-id.waiting.items (c.in-Some.id, c.in-Some.upload) c.next.new.self.rest.items c.in_ok-push.ensures.items
-                (ap (λ n. record { name = c.in-Some.upload.name; missing = n }) read.0) c.in-Some.ensures.steps.0 before.0,
+                (ap (λ lacks. record { name = c.in-Some.upload.name; print = c.in-Some.upload.print; lacks = lacks }) (c.from_vec.ensures ∙ read.0)) c.in-Some.ensures.steps.0 before.0,
             unchanged_then old mid new before.1 read.1,
           );
     }
     )
 
-pub returns-in_err-missing-clause-err : goal.returns-in_err-missing-clause-err
-returns-in_err-missing-clause-err g c clean t was =
+pub returns-in_err-lacks-clause-err : goal.returns-in_err-lacks-clause-err
+returns-in_err-lacks-clause-err g c clean t was =
     let old = state g.S.Store c.args.conn.now in
     let mid = state g.S.Store c.loop-id.conn in
-    let new = state g.S.Store c.missing_of.new.conn in
-    let early : HasCleanDisk mid = omega (arith, c.missing_of.ensures.survives.clean, clean) in
+    let new = state g.S.Store c.lacks_of.new.conn in
+    let early : HasCleanDisk mid = omega (arith, c.lacks_of.ensures.survives.clean, clean) in
     let before = (c.loop-id.invariant.read early t was).1 in
-    on_err _ (undone_after old mid new before (c.in_err-missing.ensures.err clean t (held_after old mid before t was)))
+    on_err _ (undone_after old mid new before (c.in_err-lacks.ensures.err clean t (held_after old mid before t was)))
 
-pub returns-in_err-missing-clause-survives : goal.returns-in_err-missing-clause-survives
-returns-in_err-missing-clause-survives g c =
-    survives_after (state g.S.Store c.args.conn.now) (state g.S.Store c.loop-id.conn) (state g.S.Store c.missing_of.new.conn)
+pub returns-in_err-lacks-clause-survives : goal.returns-in_err-lacks-clause-survives
+returns-in_err-lacks-clause-survives g c =
+    survives_after (state g.S.Store c.args.conn.now) (state g.S.Store c.loop-id.conn) (state g.S.Store c.lacks_of.new.conn)
     (λ clean t was. (c.loop-id.invariant.read clean t was).1) c.loop-id.invariant.survives
-    c.missing_of.ensures.survives
+    c.lacks_of.ensures.survives
 
 pub returns-in_err-push-clause-err : goal.returns-in_err-push-clause-err
 returns-in_err-push-clause-err g c clean t was =
     let old = state g.S.Store c.args.conn.now in
     let mid = state g.S.Store c.loop-id.conn in
-    let new = state g.S.Store c.missing_of.new.conn in
-    let early : HasCleanDisk mid = omega (arith, c.missing_of.ensures.survives.clean, clean) in
+    let new = state g.S.Store c.lacks_of.new.conn in
+    let early : HasCleanDisk mid = omega (arith, c.lacks_of.ensures.survives.clean, clean) in
     let before = (c.loop-id.invariant.read early t was).1 in
-    let read = c.in_ok-missing.ensures.ok clean t (held_after old mid before t was) in
+    let read = c.in_ok-lacks.ensures.ok clean t (held_after old mid before t was) in
     on_err _ (undone_after old mid new before (undone_if_unchanged mid new read.1))
 
 pub returns-in_err-push-clause-survives : goal.returns-in_err-push-clause-survives
 returns-in_err-push-clause-survives g c =
-    survives_after (state g.S.Store c.args.conn.now) (state g.S.Store c.loop-id.conn) (state g.S.Store c.missing_of.new.conn)
+    survives_after (state g.S.Store c.args.conn.now) (state g.S.Store c.loop-id.conn) (state g.S.Store c.lacks_of.new.conn)
     (λ clean t was. (c.loop-id.invariant.read clean t was).1) c.loop-id.invariant.survives
-    c.missing_of.ensures.survives
+    c.lacks_of.ensures.survives
 
 pub returns-clause-ok : goal.returns-clause-ok
 returns-clause-ok g c clean t was =

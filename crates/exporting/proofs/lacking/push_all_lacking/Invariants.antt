@@ -1,8 +1,0 @@
--- So far the archive was only read.
-use Rattle.keep.specs.Keeping.{Reads}
-use Rattle.exporting.proofs.lacking.push_all_lacking.Given as goal
-
-abbrev pub invariant-loop-upload : goal.invariant-loop-upload
-invariant-loop-upload g l =
-    let k = g.K.Keeper in
-    record { reads : Reads k.is_clean k.is_open k.faults k.book k.may_leave l.fn.archive.keeper l.archive.keeper }

@@ -1,0 +1,27 @@
+-- What came in place of what an upload lacks, found from what has arrived without its bytes.
+use Rattle.std.specs.Prelude.{Bool, ◌&&◌, not, bytes_eq, List, filter, map}
+use Rattle.sums.specs.Prints.{same_print}
+use Rattle.sums.specs.declared.print.Print.{Print}
+use Rattle.keep.specs.Book.{counts_since}
+use Rattle.keep.specs.declared.arrival.Counting.{Counting}
+use Rattle.keep.specs.declared.arrived.ArrivedFile.{ArrivedFile}
+use Rattle.keep.specs.declared.change.Lack.{Lack}
+
+-- What has arrived has the name of the lacking file.
+abbrev pub has_name : Lack → ArrivedFile → Bool
+has_name l f = bytes_eq f.name l.name
+
+-- What has arrived is the lacking file, by name and print.
+abbrev pub is_of : Lack → ArrivedFile → Bool
+is_of l f = bytes_eq f.name l.name && same_print f.print l.print
+
+-- What has arrived has the name of the lacking file and another print, and counts.
+abbrev pub is_other : Counting → Lack → ArrivedFile → Bool
+is_other counting l f = counts_since counting.span counting.moment f.moment && (has_name l f && not (is_of l f))
+
+abbrev pub print_of : ArrivedFile → Print
+print_of f = f.print
+
+-- the prints of the other contents that came under its name and count
+abbrev pub came_for : Counting → List ArrivedFile → Lack → List Print
+came_for counting arrived l = map print_of (filter (is_other counting l) arrived)
