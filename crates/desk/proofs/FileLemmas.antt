@@ -21,10 +21,11 @@ use Rattle.history.specs.Deliveries.{IsKeepers}
 use Rattle.history.specs.Histories.{Call, Found, History, Lookup, Reply}
 use Rattle.history.specs.declared.fault.Fault.{Fault}
 use Rattle.history.specs.declared.fault.Fault.TheVariants as fault
+use Rattle.queue.specs.Pieces.{HasFirst}
 use Rattle.queue.specs.Steps.{Does, Reads}
 use Rattle.desk.specs.Calls.{outcome_message}
 use Rattle.desk.specs.Exchange.{Called, HasWritten, IsAnswered, IsCalled}
-use Rattle.desk.specs.File.{AreSent, HasFirst, HasWrittenFile, HasWrittenPieces, IsFirst, IsFront, IsSent, file_message}
+use Rattle.desk.specs.File.{AreSent, HasWrittenFile, HasWrittenPieces, IsFirst, IsFront, IsSent, file_message}
 use Rattle.desk.specs.Incoming.{HasHead}
 use Rattle.desk.specs.Message.{message_of}
 use Rattle.desk.specs.Outgoing.{IsAskedFor, IsFound, IsFoundAs, IsOutgoing}
@@ -171,7 +172,7 @@ written_file held holds path body moment (Ok Nothing) written = absurd written
 written_file held holds path body moment (Ok (Status status)) written = record { message = file_message body; reply = refl; status_is = written.0; written = written.1 }
 written_file held holds path body moment (Err ReaderFailed) written = absurd written
 written_file held holds path body moment (Err WriterFailed) written = record { message = file_message body; reply = refl; written = written }
-written_file held holds path body moment (Err ArchiveFailed) written = record { message = file_message body; reply = refl; written = written }
+written_file held holds path body moment (Err ArchiveFailed) written = record { message = file_message body; reply = refl; large = written.0; written = written.1 }
 
 -- a body of as many bytes that begins with these is these bytes
 pub begins_whole : (bytes body : List ℕ) → length body ≡ length bytes → IsBeginning bytes body → body ≡ bytes
@@ -188,11 +189,11 @@ pub cut_by_archive : (size : ℕ) (held holds : Option (List ℕ)) (bytes : List
     → HasWrittenPieces size held holds bytes result
 cut_by_archive size held holds bytes result e is which taken = rw (is, which) (AppendsBeginning-all held holds bytes taken)
 
-cut_file : (held mid holds : Option (List ℕ)) (size : ℕ) (bytes body : List ℕ) (e : DeskFault) → Appends held mid (head_text (file_message body)) → HasWrittenPieces size mid holds bytes (Err e) → IsBeginning bytes body
-    → HasWrittenFile held holds body (Err e)
-cut_file held mid holds size bytes body ReaderFailed head written begins = absurd written
-cut_file held mid holds size bytes body WriterFailed head written begins = begins_message held mid holds bytes body head written begins
-cut_file held mid holds size bytes body ArchiveFailed head written begins = begins_message held mid holds bytes body head written begins
+cut_file : (held mid holds : Option (List ℕ)) (size : ℕ) (bytes body : List ℕ) (e : DeskFault) → 4194304 < length body → Appends held mid (head_text (file_message body))
+    → HasWrittenPieces size mid holds bytes (Err e) → IsBeginning bytes body → HasWrittenFile held holds body (Err e)
+cut_file held mid holds size bytes body ReaderFailed large head written begins = absurd written
+cut_file held mid holds size bytes body WriterFailed large head written begins = begins_message held mid holds bytes body head written begins
+cut_file held mid holds size bytes body ArchiveFailed large head written begins = (large, begins_message held mid holds bytes body head written begins)
 
 module _ {K : Type 0} (g : Ghosts K) (before : K) (path : List ℕ) where
   -- a head that was not written in whole
@@ -214,10 +215,11 @@ module _ {K : Type 0} (g : Ghosts K) (before : K) (path : List ℕ) where
 
   module _ (after : K) (size : ℕ) (held mid : Option (List ℕ)) (head : (body : List ℕ) → length body ≡ size → Appends held mid (head_text (file_message body))) where
     -- the pieces were cut off
-    pub sent_cut : (holds : Option (List ℕ)) (result : Result Served DeskFault) (e : DeskFault) → result ≡ Err e → AreSent g before path after size mid holds (Err e) → IsSent g before path after held holds result
-    sent_cut holds result e is sent =
+    pub sent_cut : (holds : Option (List ℕ)) (result : Result Served DeskFault) (e : DeskFault) → result ≡ Err e → 4194304 < size → AreSent g before path after size mid holds (Err e)
+        → IsSent g before path after held holds result
+    sent_cut holds result e is large sent =
         let b = body_of g before path after size sent.bytes sent.front in
-        record { body = b.body; filed = b.filed; written = rw is (cut_file held mid holds size sent.bytes b.body e (head b.body b.sized) sent.written b.begins) }
+        record { body = b.body; filed = b.filed; written = rw is (cut_file held mid holds size sent.bytes b.body e (omega (arith, large, b.sized)) (head b.body b.sized) sent.written b.begins) }
 
     written_whole : (end holds : Option (List ℕ)) (bytes body : List ℕ) → length body ≡ size → IsBeginning bytes body → (length bytes ≡ size) × Appends mid end bytes → Keeps end holds
         → Appends held holds (message_text (file_message body))

@@ -78,13 +78,20 @@ pub record IsCutOff (held holds : Option (List ℕ)) (course : Course) : Type 0 
   pub reply : reply_of course ≡ Some message
   pub written : AppendsBeginning held holds (message_text message)
 
+-- a beginning of a reply was written whose body has more than 4 MiB
+pub record IsCutInFile (held holds : Option (List ℕ)) (course : Course) : Type 0 where
+  pub message : Message
+  pub reply : reply_of course ≡ Some message
+  pub large : 4194304 < length message.body
+  pub written : AppendsBeginning held holds (message_text message)
+
 -- what was written, for each answer to the caller
 abbrev pub HasWritten : Option (List ℕ) → Option (List ℕ) → Course → Result Served DeskFault → Type 0
 HasWritten held holds course (Ok Nothing) = (course ≡ Silent) × Keeps held holds
 HasWritten held holds course (Ok (Status status)) = IsReplied held holds course status
 HasWritten held holds course (Err ReaderFailed) = (course ≡ Broken) × Keeps held holds
 HasWritten held holds course (Err WriterFailed) = IsCutOff held holds course
-HasWritten held holds course (Err ArchiveFailed) = IsCutOff held holds course
+HasWritten held holds course (Err ArchiveFailed) = IsCutInFile held holds course
 
 -- What was read after the head of what is wanted: its body, or a part of it.
 abbrev pub HasReadBehind : Option (List ℕ) → Option (List ℕ) → Want → Course → Type 0

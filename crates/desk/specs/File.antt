@@ -1,9 +1,10 @@
 -- A large file of the pool, sent piece by piece.
-use Rattle.std.specs.Prelude.{◌≡◌, ◌≤◌, ℕ, List, length, Option, Some, None, Result, Ok, Err, true}
-use Rattle.std.specs.Option.{option_map}
+use Rattle.std.specs.Prelude.{◌≡◌, ◌<◌, ◌≤◌, ℕ, List, length, Option, Some, None, Result, Ok, Err, true}
 use Rattle.std.specs.Io.KnownBytes.{Appends}
-use Rattle.keep.specs.Pieces.{PieceValue, piece_of_body}
+use Rattle.keep.specs.Pieces.{PieceValue}
 use Rattle.keep.specs.declared.keeper.Keeper.{Ghosts}
+use Rattle.queue.specs.Histories.{Found}
+use Rattle.desk.specs.Calls.{done_message}
 use Rattle.desk.specs.Reply.{Message, message_text}
 use Rattle.desk.specs.Transfer.{AppendsBeginning, IsBeginning}
 use Rattle.desk.specs.declared.exchange.DeskFault.{DeskFault}
@@ -13,20 +14,20 @@ use Rattle.desk.specs.declared.exchange.Served.TheVariants.{Nothing, Status}
 
 -- the reply that has a file of the pool
 abbrev pub file_message : List ℕ → Message
-file_message body = record { status = 200; allow = None; is_binary = true; body = body }
+file_message body = done_message true (Found (Some body))
 
--- The first piece of a file that has more than one.
+-- The first piece of a file that is not read whole: of one of more than 4 MiB.
 pub record IsFirst (first : PieceValue) : Type 0 where
   pub whole : length first.bytes ≡ 65536
-  pub within : 65536 ≤ first.size
+  pub within : 4194304 < first.size
 
--- What was written of the reply that has this body: all of it, or a beginning.
+-- What was written of the reply that has this body: all of it, or a beginning. The archive fails only while one of more than 4 MiB is written.
 abbrev pub HasWrittenFile : (held holds : Option (List ℕ)) → List ℕ → Result Served DeskFault → Type 0
 HasWrittenFile held holds body (Ok Nothing) = ⊥
 HasWrittenFile held holds body (Ok (Status status)) = (status ≡ 200) × Appends held holds (message_text (file_message body))
 HasWrittenFile held holds body (Err ReaderFailed) = ⊥
 HasWrittenFile held holds body (Err WriterFailed) = AppendsBeginning held holds (message_text (file_message body))
-HasWrittenFile held holds body (Err ArchiveFailed) = AppendsBeginning held holds (message_text (file_message body))
+HasWrittenFile held holds body (Err ArchiveFailed) = (4194304 < length body) × AppendsBeginning held holds (message_text (file_message body))
 
 -- What was written of these bytes of the pieces of a file of a size: all of them, and they are the whole file; or a beginning.
 abbrev pub HasWrittenPieces : (size : ℕ) → (held holds : Option (List ℕ)) → List ℕ → Result (Unit {0}) DeskFault → Type 0
@@ -36,10 +37,6 @@ HasWrittenPieces size held holds bytes (Err WriterFailed) = AppendsBeginning hel
 HasWrittenPieces size held holds bytes (Err ArchiveFailed) = AppendsBeginning held holds bytes
 
 module _ {K : Type 0} (g : Ghosts K) where
-  -- A keeper whose store returns what was written to it is open, and this is the first piece of the file of the pool at the path.
-  abbrev pub HasFirst : (k : K) (path : List ℕ) (first : PieceValue) → Type 0
-  HasFirst k path first = g.is_clean k → g.is_open k × (option_map (piece_of_body 0) ((g.book k).files path) ≡ Some first)
-
   -- The bytes are no more than the size. If the store returns what was written to it, the file of the pool at the path has that size and
   -- begins with them.
   pub record IsFront (before : K) (path : List ℕ) (after : K) (size : ℕ) (bytes : List ℕ) : Type 0 where

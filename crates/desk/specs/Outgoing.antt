@@ -2,9 +2,10 @@
 use Rattle.std.specs.Prelude.{◌≡◌, ℕ, List, [], Option, Some, None, string_bytes, true}
 use Rattle.keep.specs.Pieces.{piece_value}
 use Rattle.keep.specs.declared.keeper.Keeper.{Ghosts}
+use Rattle.queue.specs.Pieces.{HasFirst}
 use Rattle.queue.specs.Steps.{Reads}
 use Rattle.desk.specs.Exchange.{IsCalled, IsHandled}
-use Rattle.desk.specs.File.{HasFirst, IsFirst}
+use Rattle.desk.specs.File.{IsFirst}
 use Rattle.desk.specs.Message.{message_of}
 use Rattle.desk.specs.Request.{Received, asks}
 use Rattle.desk.specs.Want.{fetching}

@@ -5,13 +5,13 @@ use Rattle.httparse.specs.Grammar.{RequestHead, ReadsRequest}
 use Rattle.desk.specs.declared.head.Refusal.{Refusal}
 use Rattle.desk.specs.declared.head.Refusal.TheVariants.{BadRequest, NotFound, MethodNotAllowed, LengthRequired, PayloadTooLarge, HeadTooLarge, NotImplemented, OutOfMemory}
 use Rattle.desk.specs.declared.routes.Route.{Route}
-use Rattle.desk.specs.declared.head.Wanted.{Wanted}
-use Rattle.desk.specs.declared.head.Wanted.TheVariants as w
+use Rattle.desk.specs.declared.head.Ask.{Ask}
+use Rattle.desk.specs.declared.head.Ask.TheVariants as w
 use Rattle.desk.specs.Transfer.{IsBeginning, ends_head, NotEarlier}
 use Rattle.desk.specs.Want.{Want, wanted, delivery, queue_run, copying, fetching, waiting_list, cleaning, verdict_list, removing, promoting}
 
--- a `Wanted` without where it lies in memory
-abbrev pub want_of : Wanted → Want
+-- an `Ask` without where it lies in memory
+abbrev pub want_of : Ask → Want
 want_of (w.Deliver name n) = delivery (string_bytes name) n
 want_of w.Run = queue_run
 want_of (w.Copy from to source) = copying (string_bytes from) (string_bytes to) (string_bytes source)
@@ -22,8 +22,8 @@ want_of w.Verdicts = verdict_list
 want_of (w.Remove suite name) = removing (string_bytes suite) (string_bytes name)
 want_of (w.Promote from to) = promoting (string_bytes from) (string_bytes to)
 
--- a route with its `Wanted`, without where that lies in memory
-abbrev pub found_want : Route × Wanted → Route × Want
+-- a route with its `Ask`, without where that lies in memory
+abbrev pub found_want : Route × Ask → Route × Want
 found_want (route, wanted) = (route, want_of wanted)
 
 -- all of the text is one request head of the grammar, with at most 32 fields

@@ -17,7 +17,7 @@ ghost use Rattle.queue.specs.Steps.{Lasts, Reads};
 
 use crate::fault_text::{FaultText, record_text};
 use crate::file::{LargeFile, is_all, is_large, send_file};
-use crate::head::{Refusal, Wanted};
+use crate::head::{Ask, Refusal};
 use crate::reply::{Body, Reply, write_reply};
 use crate::request::{Request, read_request};
 use crate::routes::Desk;
@@ -161,7 +161,7 @@ fn send<W: Write>(writer: &mut W, reply: &Reply) -> Result<Served, DeskFault>
 }
 
 /// Has the desk remember a call that may change what suites show.
-fn note_change(desk: &Desk, wanted: &Wanted) {
+fn note_change(desk: &Desk, wanted: &Ask) {
     if wanted.may_change() {
         desk.note_change();
     }
@@ -197,11 +197,11 @@ fn reply_to<K: Keeper, R: Read>(
 }
 
 /// The path of the file of the pool that is wanted, or what is wanted else.
-fn pool_path(wanted: Wanted) -> Result<String, Wanted>
+fn pool_path(wanted: Ask) -> Result<String, Ask>
     ensures { MatchResult result (λ path. want_of wanted ≡ fetching (string_bytes path) true) (λ other. other ≡ wanted) }
 {
     match wanted {
-        Wanted::Fetch {
+        Ask::Fetch {
             path,
             is_pool: true,
         } => Ok(path),
@@ -233,7 +233,7 @@ fn find_file<K: Keeper>(alloc: Global, archive: &mut Archive<K>, path: String) -
 fn carry_out<K: Keeper, R: Read>(
     alloc: Global,
     archive: &mut Archive<K>,
-    wanted: &Wanted,
+    wanted: &Ask,
     reader: &mut R,
     moment: u64,
 ) -> Result<Reply, ReaderFailed>
@@ -246,29 +246,29 @@ fn carry_out<K: Keeper, R: Read>(
         × LeavesBehind K.Keeper (R.remaining reader.old) (R.remaining reader.new) (want_of wanted.now) moment archive.old.keeper archive.new.keeper Broken) }
 {
     match wanted {
-        Wanted::Deliver { name, length } => {
+        Ask::Deliver { name, length } => {
             match archive.receive(alloc, name.as_str(), *length as u64, reader, moment) {
                 Ok(arrived) => Ok(arrived_reply(arrived)),
                 Err(fault) => reception_reply(fault),
             }
         }
-        Wanted::Run => Ok(report_reply(archive.run(alloc, moment))),
-        Wanted::Copy { from, to, source } => {
+        Ask::Run => Ok(report_reply(archive.run(alloc, moment))),
+        Ask::Copy { from, to, source } => {
             let copied = archive.copy(alloc, from.as_str(), to.as_str(), source.as_str(), moment);
             Ok(count_reply(copied))
         }
-        Wanted::Fetch { path, is_pool } => {
+        Ask::Fetch { path, is_pool } => {
             let fetched = archive.fetch(alloc, path.as_str());
             Ok(fetch_reply(fetched, *is_pool))
         }
-        Wanted::Waiting => Ok(report_reply(archive.waiting(alloc, moment))),
-        Wanted::Clean => Ok(count_reply(archive.clean(alloc, moment))),
-        Wanted::Verdicts => Ok(report_reply(archive.verdicts(alloc))),
-        Wanted::Remove { suite, name } => {
+        Ask::Waiting => Ok(report_reply(archive.waiting(alloc, moment))),
+        Ask::Clean => Ok(count_reply(archive.clean(alloc, moment))),
+        Ask::Verdicts => Ok(report_reply(archive.verdicts(alloc))),
+        Ask::Remove { suite, name } => {
             let dropped = archive.remove(alloc, suite.as_str(), name.as_str(), moment);
             Ok(count_reply(dropped))
         }
-        Wanted::Promote { from, to } => {
+        Ask::Promote { from, to } => {
             let copied = archive.promote(alloc, from.as_str(), to.as_str(), &None, moment);
             Ok(promotion_reply(copied))
         }

@@ -4,9 +4,10 @@
 //! place in a file of that size wants it: else the reply ends early, and its client sees that bytes are missing.
 ghost use Rattle.std.specs.Prelude.{◌≡◌, ◌*◌, ◌-◌, ◌&&◌, nat_eq, nat_lt, min, length, Some, IfOk, IfErr, OnOk, string_bytes};
 ghost use Rattle.std.specs.Option.{option_map};
-ghost use Rattle.desk.specs.File.{AreSent, HasFirst, IsFirst, IsSent};
+ghost use Rattle.desk.specs.File.{AreSent, IsFirst, IsSent};
 ghost use Rattle.desk.specs.declared.exchange.DeskFault.TheVariants.{ArchiveFailed};
 ghost use Rattle.keep.specs.Pieces.{piece_of_body, piece_value};
+ghost use Rattle.queue.specs.Pieces.{HasFirst};
 ghost use Rattle.queue.specs.Steps.{Reads};
 
 use crate::exchange::{DeskFault, Served};
@@ -42,14 +43,6 @@ pub fn is_large(first: &FilePiece) -> bool
     first.size > MOST_WHOLE && first.bytes.len() == PIECE_SIZE
 }
 
-/// Whether a piece tells this size of its file, and is as long as the piece that begins at this byte of such a file.
-fn is_next(piece: &FilePiece, size: u64, begin: u64) -> bool
-    ensures { result ≡ (nat_eq piece.now.size size && nat_eq (length piece.now.bytes.items) (min (size - begin) 65536)) }
-{
-    let wanted = size.saturating_sub(begin).min(PIECE_SIZE as u64);
-    piece.size == size && piece.bytes.len() as u64 == wanted
-}
-
 /// The piece at a place, not the first, of a large file.
 fn next_piece<K: Keeper>(
     alloc: Global,
@@ -64,9 +57,8 @@ fn next_piece<K: Keeper>(
     ensures size { IfOk result (λ piece. length piece.bytes.items ≡ min (file.now.first.size - 65536 * number) 65536) }
     ensures err { IfErr result (λ fault. fault ≡ ArchiveFailed) }
 {
-    let begin = number as u64 * PIECE_SIZE as u64;
-    match archive.fetch_piece(alloc, file.path.as_str(), number) {
-        Ok(Some(piece)) if is_next(&piece, file.first.size, begin) => Ok(piece),
+    match archive.fetch_next(alloc, file.path.as_str(), number, file.first.size) {
+        Ok(Some(piece)) => Ok(piece),
         _ => Err(DeskFault::ArchiveFailed),
     }
 }

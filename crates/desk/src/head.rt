@@ -86,7 +86,7 @@ impl From<AllocError> for Refusal {
 
 /// What a head asks for.
 #[derive(Debug, Drop)]
-pub enum Wanted {
+pub enum Ask {
     /// A delivery, whose body of this length follows the head.
     Deliver {
         name: String,
@@ -116,24 +116,20 @@ pub enum Wanted {
     },
 }
 
-impl Wanted {
+impl Ask {
     /// Whether the call may change what suites show. These are the calls whose method is POST.
     pub fn may_change(&self) -> bool {
         match self {
-            Wanted::Run
-            | Wanted::Copy { .. }
-            | Wanted::Clean
-            | Wanted::Remove { .. }
-            | Wanted::Promote { .. } => true,
-            Wanted::Deliver { .. } | Wanted::Fetch { .. } | Wanted::Waiting | Wanted::Verdicts =>
-                false,
+            Ask::Run | Ask::Copy { .. } | Ask::Clean | Ask::Remove { .. } | Ask::Promote { .. } =>
+                true,
+            Ask::Deliver { .. } | Ask::Fetch { .. } | Ask::Waiting | Ask::Verdicts => false,
         }
     }
 }
 
 /// Reads a whole head. It checks the target, then the Transfer-Encoding, the route, the parameters of the route, the method and the
 /// Content-Length. The first check that fails says why the head is refused.
-pub fn read_wanted(alloc: Global, desk: &Desk, head: &[u8]) -> Result<Wanted, Refusal>
+pub fn read_wanted(alloc: Global, desk: &Desk, head: &[u8]) -> Result<Ask, Refusal>
     ensures { Gives want_of result (HeadAsks head.now) }
 {
     let mut headers = [EMPTY_HEADER_SPAN; MAX_FIELDS];
@@ -256,7 +252,7 @@ fn is_digits(text: &[u8]) -> bool
 }
 
 /// What a path asks for: its route, and the command of that route.
-fn find_wanted(alloc: Global, desk: &Desk, target: &str) -> Result<(Route, Wanted), Refusal>
+fn find_wanted(alloc: Global, desk: &Desk, target: &str) -> Result<(Route, Ask), Refusal>
     requires { is_path target.now ≡ true }
     ensures { Gives found_want result (λ r. r ≡ asked_at target.now) }
 {
@@ -274,46 +270,46 @@ fn read_route(
     route: Route,
     target: &str,
     params: &Params<'_, '_>,
-) -> Result<Wanted, Refusal>
+) -> Result<Ask, Refusal>
     requires path { is_path target.now ≡ true }
     requires text { AllText (walk params.now.pattern.now params.now.text.now params.now.path.now params.now.names.now 0 0) }
     ensures { Gives want_of result (λ r. r ≡ wanted_at route (walk params.now.pattern.now params.now.text.now params.now.path.now params.now.names.now 0 0) target.now) }
 {
     match route {
-        Route::Deliver => Ok(Wanted::Deliver {
+        Route::Deliver => Ok(Ask::Deliver {
             name: decode_param(alloc, params, "name")?,
             length: 0,
         }),
-        Route::Run => Ok(Wanted::Run),
-        Route::Copy => Ok(Wanted::Copy {
+        Route::Run => Ok(Ask::Run),
+        Route::Copy => Ok(Ask::Copy {
             from: decode_param(alloc, params, "from")?,
             to: decode_param(alloc, params, "to")?,
             source: decode_param(alloc, params, "source")?,
         }),
-        Route::Waiting => Ok(Wanted::Waiting),
-        Route::Clean => Ok(Wanted::Clean),
-        Route::Verdicts => Ok(Wanted::Verdicts),
+        Route::Waiting => Ok(Ask::Waiting),
+        Route::Clean => Ok(Ask::Clean),
+        Route::Verdicts => Ok(Ask::Verdicts),
         Route::Dists => read_fetch(alloc, target, false),
         Route::Pool => read_fetch(alloc, target, true),
-        Route::Remove => Ok(Wanted::Remove {
+        Route::Remove => Ok(Ask::Remove {
             suite: decode_param(alloc, params, "suite")?,
             name: decode_param(alloc, params, "package")?,
         }),
         Route::Promote => {
             let from = decode_param(alloc, params, "from")?;
             let to = decode_param(alloc, params, "to")?;
-            Ok(Wanted::Promote { from, to })
+            Ok(Ask::Promote { from, to })
         }
     }
 }
 
 /// A file or an index text, by the whole path without its first slash.
-fn read_fetch(alloc: Global, target: &str, is_pool: bool) -> Result<Wanted, Refusal>
+fn read_fetch(alloc: Global, target: &str, is_pool: bool) -> Result<Ask, Refusal>
     requires { is_path target.now ≡ true }
     ensures { Gives want_of result (λ r. r ≡ fetched_at (drop 1 target.now) is_pool) }
 {
     let path = decode(alloc, &target[1..])?;
-    Ok(Wanted::Fetch { path, is_pool })
+    Ok(Ask::Fetch { path, is_pool })
 }
 
 /// The parameter of this name, decoded.
@@ -349,16 +345,16 @@ fn check_method(method: &[u8], wanted: Method) -> Result<(), Refusal>
 
 /// The command with the length of its body, which only a delivery has. The archive says how large a body may be under the name of a file.
 /// Under any other name a body of more than 4 MiB is refused here.
-fn with_length(wanted: Wanted, length: Option<u64>) -> Result<Wanted, Refusal>
+fn with_length(wanted: Ask, length: Option<u64>) -> Result<Ask, Refusal>
     ensures { Gives want_of result (λ r. r ≡ with_body_length (want_of wanted) length) }
 {
     match (wanted, length) {
-        (Wanted::Deliver { .. }, None) => Err(Refusal::LengthRequired),
-        (Wanted::Deliver { name, .. }, Some(length)) => {
+        (Ask::Deliver { .. }, None) => Err(Refusal::LengthRequired),
+        (Ask::Deliver { name, .. }, Some(length)) => {
             if !is_file_name(name.as_str()) && length > MOST_SIZE {
                 return Err(Refusal::PayloadTooLarge);
             }
-            Ok(Wanted::Deliver {
+            Ok(Ask::Deliver {
                 name,
                 length: length as usize,
             })

@@ -2,7 +2,7 @@
 ghost use Rattle.std.specs.Prelude.{IfOk, OnErr};
 ghost use Rattle.desk.specs.Incoming.{IsIncoming, ReadsBeginning};
 
-use crate::head::{Refusal, Wanted, read_wanted};
+use crate::head::{Ask, Refusal, read_wanted};
 use crate::routes::Desk;
 use crate::transfer::{HeadEnd, read_head};
 use arrayvec::ArrayVec;
@@ -18,7 +18,7 @@ pub enum Request {
     /// The request is refused before the archive hears of it.
     Refused(Refusal),
     /// A command for the archive. The body of a delivery follows, and was not read.
-    Asks(Wanted),
+    Asks(Ask),
 }
 
 /// Reads the head of one request as far as its empty line, and nothing after it. If the reader fails or memory is

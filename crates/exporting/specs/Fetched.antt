@@ -1,8 +1,6 @@
 -- What an export has from the archive.
 use Rattle.std.specs.Prelude.{◌≡◌, ℕ, List, codes, Option, Some, Ok}
-use Rattle.std.specs.Option.{option_map}
 use Rattle.std.specs.Io.KnownBytes.{Appends}
-use Rattle.keep.specs.Pieces.{PieceValue, piece_of_body}
 use Rattle.keep.specs.declared.keeper.Keeper.{Ghosts}
 use Rattle.queue.specs.Answers.{IsKept}
 use Rattle.queue.specs.Archives.{book_of}
@@ -14,10 +12,6 @@ use Rattle.exported.specs.Names.{state_name}
 -- After each history whose book is kept, these are the bytes that its plain archive has at the path.
 abbrev pub IsFetched : {K : Type 0} (g : Ghosts K) (old : K) (path body : List ℕ) (new : K) → Type 0
 IsFetched g old path body new = Does g old (Lookup path) (Ok (Found (Some body))) new
-
--- A keeper whose store returns what was written to it is open, and this is the first piece of the file of the pool at the path.
-abbrev pub HasFirst : {K : Type 0} (g : Ghosts K) (k : K) (path : List ℕ) (first : PieceValue) → Type 0
-HasFirst g k path first = g.is_clean k → g.is_open k × (option_map (piece_of_body 0) ((g.book k).files path) ≡ Some first)
 
 -- After each history whose book is kept, these are the bytes that its plain archive has in the pool at the path.
 abbrev pub IsFiled : {K : Type 0} (g : Ghosts K) (old : K) (path body : List ℕ) (new : K) → Type 0

@@ -4,15 +4,16 @@ ghost use Rattle.std.specs.Prelude.{◌≡◌, ◌*◌, Some, IfOk, OnOk};
 ghost use Rattle.std.specs.Option.{option_map};
 ghost use Rattle.std.specs.Io.KnownBytes.{Appends};
 ghost use Rattle.keep.specs.Pieces.{piece_of_body, piece_value};
+ghost use Rattle.queue.specs.Pieces.{HasFirst};
 ghost use Rattle.queue.specs.Steps.{Reads};
-ghost use Rattle.exporting.specs.Fetched.{HasFirst, IsWritten};
+ghost use Rattle.exporting.specs.Fetched.{IsWritten};
 
 use crate::asked::Job;
 use crate::fault::ExportFault;
 use exported::Manifest;
 use folders::{Disk, Folder};
 use keep::{FilePiece, KeepFault, Keeper, PIECE_SIZE};
-use queue::{Archive, Fault};
+use queue::{Archive, Fault, is_piece_at};
 use std::alloc::Global;
 use std::io::Write;
 use suites::PoolFile;
@@ -23,17 +24,7 @@ fn damaged() -> ExportFault {
     ExportFault::Archive(Fault::Keeper(KeepFault::Disk))
 }
 
-/// Refuses a piece of a file of a size, if it is not the one that begins at this byte: if it says another size, or has fewer or more bytes
-/// than it should.
-fn refuse_other(piece: &FilePiece, size: u64, begin: u64) -> Result<(), ExportFault> {
-    let wanted = size.saturating_sub(begin).min(PIECE_SIZE as u64);
-    if piece.size == size && piece.bytes.len() as u64 == wanted {
-        return Ok(());
-    }
-    Err(damaged())
-}
-
-/// The first piece of the file of the pool at a path. An export asks for those that the archive has: any other path is refused as `Place`.
+/// The first piece of the file of the pool at a path. An export asks for those that the archive has: any other path is refused as `Path`.
 fn first_piece<K: Keeper>(
     alloc: Global,
     archive: &mut Archive<K>,
@@ -44,23 +35,24 @@ fn first_piece<K: Keeper>(
 {
     match archive.fetch_piece(alloc, path, 0)? {
         Some(piece) => Ok(piece),
-        None => Err(ExportFault::Place(String::from_str(alloc, path)?)),
+        None => Err(ExportFault::Path(String::from_str(alloc, path)?)),
     }
 }
 
-/// A later piece of the file of the pool at a path, of which there was a first one.
+/// A later piece of the file of the pool at a path, whose first piece said this size.
 fn next_piece<K: Keeper>(
     alloc: Global,
     archive: &mut Archive<K>,
     path: &str,
     number: u32,
+    size: u64,
 ) -> Result<FilePiece, ExportFault>
     ensures reads { Reads K.Keeper archive.old.keeper archive.new.keeper }
     ensures served { K.is_clean archive.new.keeper → OnOk result (K.is_open archive.new.keeper) }
     ensures piece { K.is_clean archive.new.keeper → IfOk result (λ piece.
         option_map (piece_of_body number) ((K.book archive.old.keeper).files path.now) ≡ Some (piece_value piece)) }
 {
-    match archive.fetch_piece(alloc, path, number)? {
+    match archive.fetch_next(alloc, path, number, size)? {
         Some(piece) => Ok(piece),
         None => Err(damaged()),
     }
@@ -83,15 +75,16 @@ fn write_pieces<R: Disk, K: Keeper, W: Write>(
     ensures written { OnOk result (IsWritten K.Keeper archive.old.keeper path.now (W.contents out.old) (W.contents out.new) archive.new.keeper) }
 {
     let size = first.size;
-    refuse_other(first, size, 0)?;
+    if !is_piece_at(first, size, 0) {
+        return Err(damaged());
+    }
     site.write_on(rt.alloc(), out, &first.bytes)?;
     for number in 1..u32::MAX {
         let begin = number as u64 * PIECE_SIZE as u64;
         if begin >= size {
             return Ok(());
         }
-        let piece = next_piece(rt.alloc(), archive, path, number)?;
-        refuse_other(&piece, size, begin)?;
+        let piece = next_piece(rt.alloc(), archive, path, number, size)?;
         site.write_on(rt.alloc(), out, &piece.bytes)?;
     }
     Err(damaged())

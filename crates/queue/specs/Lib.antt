@@ -4,6 +4,7 @@ pub mod Archives
 pub mod Answers
 pub mod Deliveries
 pub mod Steps
+pub mod Pieces
 pub mod Receiving
 pub mod Commands
 pub mod Configuring

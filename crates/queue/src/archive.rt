@@ -8,7 +8,7 @@
 //! leaves its book alone (`settled`). A run, a cleaning, a copy, a promotion and a removal are one commit each, so `LeavesStep` has two
 //! cases for them. The laws on stops are stated of what follows from either (`LeavesCall`).
 
-ghost use Rattle.std.specs.Prelude.{◌≡◌, ◌⊎◌, ◌<◌, ◌≤◌, ⊤, true, Some, None, Err, IfOk, IfErr, OnOk, OnErr, false, map};
+ghost use Rattle.std.specs.Prelude.{◌≡◌, ◌⊎◌, ◌<◌, ◌≤◌, ⊤, true, Some, None, Err, IfOk, IfErr, IfSome, OnOk, OnErr, false, map};
 ghost use Rattle.std.specs.Option.{option_map};
 ghost use Rattle.history.specs.Amending.{IsPlanned, OnceAmended};
 ghost use Rattle.history.specs.Answers.{copy_line, is_free_copy, is_free_removal};
@@ -24,13 +24,15 @@ ghost use Rattle.keep.specs.Keeping.{MayAnswer};
 ghost use Rattle.keep.specs.Pieces.{piece_of_body, piece_value};
 ghost use Rattle.keep.specs.declared.fault.KeepFault.TheVariants.{Configuration};
 ghost use Rattle.history.specs.Configuring.{Configures, Endures, LeavesConfigured};
+ghost use Rattle.queue.specs.Pieces.{is_piece_at};
 ghost use Rattle.history.specs.Steps.{Does, IsServed, IsUndone, Lasts, Leaves, LeavesDelivery, LeavesStep, Reads};
 
 use crate::delivery::check_delivery;
+use crate::pieces::is_piece_at;
 use crate::run::judged_steps;
 use history::{
     Arrived, Copied, Fault, Promotion, Report, copied_steps, copy_lines, copy_plan, groups_of,
-    only_step, place_of, removal_plan, report_lines, sources_of, two_suites, verdict_lines,
+    only_step, removal_plan, report_lines, sources_of, suite_position, two_suites, verdict_lines,
     waiting_lines,
 };
 use keep::{Change, FilePiece, KeepFault, Keeper, LATEST, Step};
@@ -281,7 +283,7 @@ impl<K: Keeper> Archive<K> {
         if moment > LATEST {
             return Err(Fault::Moment);
         }
-        let place = place_of(self.keeper.config(), suite)?;
+        let place = suite_position(self.keeper.config(), suite)?;
         let mut shelves = self.keeper.shelves(alloc)?;
         let plan = removal_plan(alloc, self.keeper.config(), &shelves, place, name)?;
         let count = plan.dropped.as_slice().len() as u64;
@@ -348,6 +350,29 @@ impl<K: Keeper> Archive<K> {
         ensures refused { IfErr result (IsKeepers K.may_fail ⊤) }
     {
         Ok(self.keeper.file_piece(alloc, path, number)?)
+    }
+
+    /// The piece at a place of the file of the pool at a path, if the file has this size, in bytes, and the piece belongs at this place of
+    /// such a file: `None` if there is no file, if the piece says another size, or if it has fewer or more bytes.
+    pub fn fetch_next(
+        &mut self,
+        alloc: Global,
+        path: &str,
+        number: u32,
+        size: u64,
+    ) -> Result<Option<FilePiece>, Fault>
+        // The book stays as it was, and a crash leaves what it would have left before.
+        ensures reads { Reads K.Keeper self.old.keeper self.new.keeper }
+        ensures served { K.is_clean self.new.keeper → OnOk result (K.is_open self.new.keeper) }
+        ensures piece { K.is_clean self.new.keeper → IfOk result (λ found. IfSome found (λ piece.
+            option_map (piece_of_body number) ((K.book self.old.keeper).files path.now) ≡ Some (piece_value piece))) }
+        ensures fits { IfOk result (λ found. IfSome found (λ piece. is_piece_at size number (piece_value piece) ≡ true)) }
+        ensures refused { IfErr result (IsKeepers K.may_fail ⊤) }
+    {
+        match self.fetch_piece(alloc, path, number)? {
+            Some(piece) if is_piece_at(&piece, size, number) => Ok(Some(piece)),
+            _ => Ok(None),
+        }
     }
 
     /// The uploads without a verdict whose .changes counts at a moment, in seconds since 1970-01-01 00:00:00 UTC. Each has a line: the

@@ -5,6 +5,7 @@
 mod archive;
 mod delivery;
 mod drive;
+mod pieces;
 mod promise;
 mod reading;
 mod receiving;
@@ -20,5 +21,6 @@ pub use history::{
     a_stop_in_a_configuration_leaves_a_book, a_stop_leaves_a_book, a_stop_leaves_a_part_of_a_list,
     for_good, lists_are_one_list, nothing_is_an_opening,
 };
+pub use pieces::is_piece_at;
 pub use promise::drive_anew;
 pub use reading::{ReaderFailed, read_some};

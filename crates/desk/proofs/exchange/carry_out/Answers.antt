@@ -1,7 +1,7 @@
 use Rattle.std.proofs.Common.{◌≡◌, ℕ, List, [], Err, subst, refl, true, false}
 use Rattle.desk.specs.Request.{want_of}
 use Rattle.desk.specs.Want.{cleaning, copying, delivery, fetching, may_ask, promoting, queue_run, removing, verdict_list, waiting_list}
-use Rattle.desk.specs.declared.head.Wanted.{Wanted}
+use Rattle.desk.specs.declared.head.Ask.{Ask}
 use Rattle.queue.specs.Commands.{counted, found, promoted, reported}
 use Rattle.queue.specs.Receiving.{IsReceived, LeavesReceived}
 use Rattle.history.specs.Deliveries.{most_named}
@@ -23,7 +23,7 @@ returns-in-Err-clause-carried_out g c =
     c.args.archive.now.keeper c.receive.new.self.keeper (Err c.in-Err.fault)) c.as_str.ensures.value c.in-Err.ensures.received in
     let left = subst (λ (name : List ℕ). LeavesReceived g.K.Keeper (g.R.Read.remaining c.args.reader.now) (g.R.Read.remaining c.receive.new.reader) name c.in-Deliver.length c.args.moment
     c.args.archive.now.keeper c.receive.new.self.keeper) c.as_str.ensures.value c.in-Err.ensures.crash in
-    let asked = subst (λ (w : Wanted). may_ask (want_of w) ≡ true) c.in-Deliver.is c.requires in
+    let asked = subst (λ (w : Ask). may_ask (want_of w) ≡ true) c.in-Deliver.is c.requires in
     rw c.in-Deliver.is (reply_told g.K.Keeper _ _ _ _ (delivery _ c.in-Deliver.length) c.args.moment c.reception_reply.result _ c.reception_reply.ensures
     (received_not g.K.Keeper _ _ _ _ _ c.in-Deliver.length c.args.moment c.in-Err.fault left asked received))
 
@@ -33,7 +33,7 @@ returns-in-Err-clause-err g c =
     c.args.archive.now.keeper c.receive.new.self.keeper (Err c.in-Err.fault)) c.as_str.ensures.value c.in-Err.ensures.received in
     let left = subst (λ (name : List ℕ). LeavesReceived g.K.Keeper (g.R.Read.remaining c.args.reader.now) (g.R.Read.remaining c.receive.new.reader) name c.in-Deliver.length c.args.moment
     c.args.archive.now.keeper c.receive.new.self.keeper) c.as_str.ensures.value c.in-Err.ensures.crash in
-    let asked = subst (λ (w : Wanted). may_ask (want_of w) ≡ true) c.in-Deliver.is c.requires in
+    let asked = subst (λ (w : Ask). may_ask (want_of w) ≡ true) c.in-Deliver.is c.requires in
     rw c.in-Deliver.is (reply_missing g.K.Keeper _ _ _ _ (delivery _ c.in-Deliver.length) c.args.moment c.reception_reply.result _ c.reception_reply.ensures
     (received_not g.K.Keeper _ _ _ _ _ c.in-Deliver.length c.args.moment c.in-Err.fault left asked received))
 

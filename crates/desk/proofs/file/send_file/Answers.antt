@@ -12,7 +12,7 @@ returns-in_err-write_file_head-clause-sent g c =
 pub returns-in_err-send_pieces-clause-sent : goal.returns-in_err-send_pieces-clause-sent
 returns-in_err-send_pieces-clause-sent g c =
     let p = err_from_is_err_and c.from_residual-in_err-send_pieces.result c.from_residual-in_err-send_pieces.ensures.1 in
-    sent_cut g.K.Keeper c.args.archive.now.keeper (string_bytes c.args.file.now.path) _ c.args.file.now.first.size _ _ c.in_ok-write_file_head.ensures.ok _ _ c.in_err-send_pieces.field-0.0 (p.1 ∙ ap Err p.2) c.in_err-send_pieces.ensures.sent
+    sent_cut g.K.Keeper c.args.archive.now.keeper (string_bytes c.args.file.now.path) _ c.args.file.now.first.size _ _ c.in_ok-write_file_head.ensures.ok _ _ c.in_err-send_pieces.field-0.0 (p.1 ∙ ap Err p.2) c.requires.size.within c.in_err-send_pieces.ensures.sent
 
 pub returns-in_err-flush-clause-sent : goal.returns-in_err-flush-clause-sent
 returns-in_err-flush-clause-sent g c =
