@@ -75,6 +75,8 @@ BEHIND = [
     "tests.test_listing",
     "tests.test_why",
     "tests.test_progress",
+    "tests.test_meanings",
+    "tests.test_slips",
     "tests.test_export",
     "tests.test_export_hostile",
     "tests.test_export_planted",

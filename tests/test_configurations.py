@@ -119,7 +119,8 @@ class Words(Configurations):
         self.expect(db, WIDE)
         self.assertEqual(self.configure(db, LAB, status=1, moment=LATER + 2), "archive: K5\n")
         self.expect(db, WIDE)
-        self.assertEqual(self.configure(db, BOX, moment=RUN), "")
+        early = f"archive: the moment {RUN} lies before the date of box, which is {LATER}\n"
+        self.assertEqual(self.configure(db, BOX, moment=RUN), early)
         self.expect(db, BOX)
 
     def test_a_change_of_many_bytes(self):
@@ -127,7 +128,7 @@ class Words(Configurations):
         db = self.shows_hello()
         text = BOX + "Fill: " + "x" * (1_048_576 - len(BOX) - 7) + "\n"
         self.assertEqual(self.configure(db, text + "\n", status=1), "archive: F1 P10\n")
-        self.assertEqual(self.configure(db, text), "")
+        self.assertEqual(self.configure(db, text), "archive: passed over Fill in box\n")
         self.assertEqual(self.line(0, "configuration", db), text)
         self.assertEqual(self.text_at(db, "dists/box/Release"), RELEASES[BOX])
 

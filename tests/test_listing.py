@@ -325,7 +325,7 @@ Components: release InRelease Release
                 status, printed, told = self.ran("check", path)
                 self.assertEqual((status, printed), (1, ""))
                 self.assertEqual(told, self.ran("init", "--db", f"{self.folder}/none.db", "--at", "0", path)[2])
-                self.assertRegex(told, r"^archive: F\d")
+                self.assertRegex(told, r"(?m)^archive: F\d")
 
     def test_a_file_that_cannot_be_read(self):
         self.assertEqual(self.ran("check", f"{self.folder}/nothing"), (1, "", f"archive: cannot read {self.folder}/nothing\n"))

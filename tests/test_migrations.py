@@ -155,9 +155,9 @@ class Made(Migrations):
                 self.assertEqual(self.migrate(), DONE)
                 name, files = older.waiting()[0].name, uploads.upload_of(older.SMALL)
                 self.assertEqual(self.printed("waiting", "--at", str(MOVED)), f"{len(files) - 1} {name}\n")
-                self.assertEqual(self.printed("put", "--at", str(MOVED), *(f"{DATA}/{it}" for it in NAMES)), "".join(f"again {it}\n" for it in NAMES))
+                self.assertEqual(self.printed("put", "--at", str(RUN), *(f"{DATA}/{it}" for it in NAMES)), "".join(f"again {it}\n" for it in NAMES))
                 paths = uploads.write(f"{self.folder}/small", files)
-                told = self.printed("put", "--at", str(MOVED), *paths)
+                told = self.printed("put", "--at", str(RUN), *paths)
                 self.assertEqual(sorted(told.split("\n"))[1:], sorted([f"again {name}", *(f"new {it}" for it in files if it != name)]))
                 self.assertEqual(self.printed("run", "--at", str(RUN + 1)), f"accepted {name}\n")
                 text = self.printed("show", "dists/box/main/binary-amd64/Packages")
@@ -219,11 +219,12 @@ class Configurations(Migrations):
 
     def test_the_spelling_may_differ(self):
         """Values count, not how they stand there."""
-        for text in ("Components:main\nNote: passed over\nArchitectures:\n amd64\n source\nCodename: box", f"\n\n{BOX}\n\n"):
+        slip = "archive: passed over Note in box, did you mean Suite\n"
+        for text, told in (("Components:main\nNote: passed over\nArchitectures:\n amd64\n source\nCodename: box", slip), (f"\n\n{BOX}\n\n", "")):
             with self.subTest(text):
                 self.clear()
                 self.make(1)
-                self.assertEqual(self.migrate(text), DONE)
+                self.assertEqual(self.migrate(text), (0, "", told))
                 self.assertEqual(self.printed("show", "dists/box/Release"), older.archive().suites[0].release().decode())
 
     def test_nothing_else_may_differ(self):

@@ -55,10 +55,10 @@ def session(text):
 
 @needs_file(PROGRAM)
 class Case(snippets.Case):
-    def made(self, changes=()):
-        """Makes the archive of the page, with other words in its configuration."""
+    def made(self, changes=(), told=""):
+        """Makes the archive of the page at the moment 1, with other words in its configuration. It says this on standard error."""
         self.room.write("work/box.conf", snippet("configuration", changes))
-        self.shell('archive init --db box.db --at "$(date +%s)" box.conf')
+        self.assertEqual(self.room.run("archive init --db box.db --at 1 box.conf"), (0, "", told))
 
     def made_with_days(self):
         """Makes the archive of the page at the moment 1, with files that count for 90 days."""
@@ -158,19 +158,20 @@ class Commands(Case):
 class Rules(Case):
     """What the page says of configurations, verdicts and copies."""
 
-    def judged(self, package=HELLO, folder="ready"):
+    def judged(self, package=HELLO, folder="ready", at="$(date +%s)"):
         self.ready(package, folder)
-        self.shell("archive put --db box.db --at 1 $(cat files)")
-        return self.shell("archive run --db box.db --at 1")
+        self.shell(f"archive put --db box.db --at {at} $(cat files)")
+        return self.shell(f"archive run --db box.db --at {at}")
 
     @needs("dpkg-deb")
     def test_a_misspelt_field_lets_everybody_in(self):
         others = {"* by Ann <ann@example.org>": "* by Bob <bob@example.org>", "hello by anybody": "hallo by anybody"}
-        for words, verdict in ((others, "refused 3"), ({**others, "Uploaders:": "Uploader:"}, "accepted")):
+        slip = "archive: passed over Uploader in box, did you mean Uploaders\n"
+        for words, told, verdict in ((others, "", "refused 3"), ({**others, "Uploaders:": "Uploader:"}, slip, "accepted")):
             with self.subTest(verdict):
                 self.room = snippets.Room()
                 self.addCleanup(self.room.close)
-                self.made(words)
+                self.made(words, told)
                 self.assertEqual(self.judged(), f"{verdict} {CHANGES}\n")
 
     @needs("dpkg-deb")
@@ -189,7 +190,7 @@ class Rules(Case):
         self.room.write("work/box.conf", snippet("configuration") + lab)
         self.shell("rm box.db*; archive init --db box.db --at 1 box.conf")
         self.judged()
-        self.assertEqual(self.shell("archive copy --db box.db --at 1 box lab hello"), "2\n")
+        self.assertEqual(self.shell("archive copy --db box.db --at $(date +%s) box lab hello"), "2\n")
 
     @needs("dpkg-deb")
     def test_a_whole_suite_is_copied(self):
@@ -232,17 +233,17 @@ class Rules(Case):
         self.made_with_three()
         for version in ("1.0-1", "1.1-1"):
             self.judged(hello(version), f"ready{version}")
-            self.shell("archive promote --db box.db --at 1 testing stable")
+            self.shell("archive promote --db box.db --at $(date +%s) testing stable")
         # As the page says that it does not help.
-        self.shell("archive remove --db box.db --at 1 stable hello")
+        self.shell("archive remove --db box.db --at $(date +%s) stable hello")
         again = {"ready/hello_1.0-1": "ready1.0-1/hello_1.0-1"}
         self.assertEqual(self.shell(snippet("again", again)), "new again.changes\naccepted again.changes\n")
         self.assertEqual([self.versions(it) for it in ("testing", "stable")], [["1.1-1"], []])
         # And as it says what helps if no suite has the older one.
-        self.shell("archive remove --db box.db --at 1 testing hello")
+        self.shell("archive remove --db box.db --at $(date +%s) testing hello")
         again |= {"again.changes\narchive put": "new.changes\narchive put", "again.changes\narchive run": "new.changes\narchive run"}
         self.assertEqual(self.shell(snippet("again", again)), "new new.changes\naccepted new.changes\n")
-        self.shell("archive promote --db box.db --at 1 testing stable hello")
+        self.shell("archive promote --db box.db --at $(date +%s) testing stable hello")
         newer = {"ready/hello_1.0-1": "ready1.1-1/hello_1.1-1", "again.changes\narchive put": "newer.changes\narchive put"}
         newer["again.changes\narchive run"] = "newer.changes\narchive run"
         self.assertEqual(self.shell(snippet("again", newer)), "new newer.changes\naccepted newer.changes\n")
@@ -258,26 +259,26 @@ class Rules(Case):
         self.ready(hello("1.2-1"), "ready1.2-1")
         path = pathlib.Path(self.room.work, "ready1.2-1/hello_1.2-1_amd64.changes")
         path.write_text(snippets.changed(path.read_text(), {"Distribution: box": "Distribution: stable"}))
-        self.shell("archive put --db box.db --at 1 $(cat files)")
-        self.assertEqual(self.shell("archive run --db box.db --at 1"), f"refused 3 {path.name}\n")
+        self.shell("archive put --db box.db --at $(date +%s) $(cat files)")
+        self.assertEqual(self.shell("archive run --db box.db --at $(date +%s)"), f"refused 3 {path.name}\n")
         self.assertEqual(self.shell(snippet("promote to stable")), "2 hello\n2 hello\n")
         self.assertEqual([self.versions(it) for it in ("testing", "stable", "previous")], [["1.1-1"], ["1.1-1"], ["1.0-1"]])
         printed = self.shell(snippet("go back"))
         self.assertEqual(printed, "Package: hello\nVersion: 1.0-1\n2\n2\n")
         self.assertEqual([self.versions(it) for it in ("testing", "stable", "previous")], [["1.1-1"], ["1.0-1"], ["1.0-1"]])
         # Some packages alone, of which stable shows one that previous gets.
-        self.assertEqual(self.shell("archive promote --db box.db --at 1 stable previous hello; archive promote --db box.db --at 1 testing stable hello"), "0 hello\n2 hello\n")
-        self.assertEqual(self.room.run("archive promote --db box.db --at 1 stable previous world")[:2], (1, "refused Q8 world\n"))
+        self.assertEqual(self.shell("archive promote --db box.db --at $(date +%s) stable previous hello; archive promote --db box.db --at $(date +%s) testing stable hello"), "0 hello\n2 hello\n")
+        self.assertEqual(self.room.run("archive promote --db box.db --at $(date +%s) stable previous world")[:2], (1, "refused Q8 world\n"))
         self.shell(snippet("go back"))
         # If there is no version to go back to, nothing is taken out.
-        self.shell("archive remove --db box.db --at 1 previous hello")
+        self.shell("archive remove --db box.db --at $(date +%s) previous hello")
         self.fails(snippet("go back"))
         self.assertEqual(self.versions("stable"), ["1.0-1"])
 
     @needs("dpkg-deb")
     def test_what_counts_no_more_is_taken_away(self):
         self.made_with_days()
-        self.judged()
+        self.judged(at=1)
         names, shown = self.names(), self.shell(f"archive show --db box.db {PACKAGES}")
         for moment, count in ((DAYS, 0), (1 + DAYS, len(names)), (1 + DAYS, 0)):
             self.assertEqual(self.shell(snippet("clean", {'"$(date +%s)"': str(moment)})), f"{count}\n")

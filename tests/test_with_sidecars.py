@@ -62,6 +62,9 @@ Changes:
    * First.
 """
 
+# The fields that a .changes has to have.
+REQUIRED = "Format Date Source Version Architecture Distribution Maintainer Changes Checksums-Sha1 Checksums-Sha256 Files".split()
+
 ARMOURED = """-----BEGIN PGP SIGNED MESSAGE-----
 Hash: SHA512
 
@@ -243,6 +246,8 @@ class Uploads(unittest.TestCase):
         deb = self.built / "hello_1.0-1_all.deb"
         rows = [
             (good.replace("Files:", "Fields:"), "no field Files"),
+            (good.replace("Date: ", "Day: ").replace("Maintainer: Ann <ann@example.org>", "Maintainer: "), "no fields Date, Maintainer"),
+            ("Source: hello\n", f"no fields {', '.join(it for it in REQUIRED if it != 'Source')}"),
             (good.replace(f" {deb.stat().st_size} ", " 7 "), f"{deb.name} is not the file that Checksums-Sha1 lists"),
             (ARMOURED.format(text=good).partition("-----BEGIN PGP SIGNATURE")[0], "a signature without an end"),
             (good + "\nFormat: 1.8\n", "not a field of one paragraph: "),
@@ -436,7 +441,7 @@ class Uploads(unittest.TestCase):
     def test_what_is_no_name_of_a_changes(self):
         good = self.changes().read_text()
         for name, wanted in (
-            ("hello_1.0-1_all.dsc", "it is no .changes"),
+            ("hello_1.0-1_all.dsc", "it is no .changes and no .deb"),
             ("hello\nready.changes", "hello?ready.changes is no file name"),
             ("\x1b]0;pwned\x07.changes", "?]0;pwned?.changes is no file name"),
             ("-x.changes", "-x.changes is no file name"),

@@ -4,7 +4,9 @@ use crate::database::{InFile, Opening, close, open_shown};
 use crate::fault::{Stop, all_taken};
 use crate::print;
 use crate::progress::Progress;
+use crate::slips::{may_change, tell_early};
 use crate::why::{Asked, tell};
+use crate::words::Words;
 use command_line::{LineRequest, Manner, Request};
 use keep::Keeper;
 use queue::Archive;
@@ -54,8 +56,9 @@ fn ask<'a, K: Keeper, W: Write, E: Write>(
     }
 }
 
-/// Asks the archive of a database file, and says whether everything that was given was taken. The progress of a `put` is shown on
-/// `err`, if that is a terminal.
+/// Asks the archive of a database file, and says whether everything that was given was taken. If the request may change something, the
+/// suites with a date after its moment are named on `err` before. The progress of a `put` is shown on `err`, if that is a terminal. If the
+/// request is refused, there may be words for the refusal.
 pub fn ask_file<'a, K: Keeper + Drop, F: InFile<K>, W: Write, E: Write>(
     rt: &HostRuntime,
     opening: Opening<'_>,
@@ -63,9 +66,16 @@ pub fn ask_file<'a, K: Keeper + Drop, F: InFile<K>, W: Write, E: Write>(
     manner: Manner,
     out: &mut W,
     err: &mut E,
+    words: &mut Words,
 ) -> Result<bool, Stop<'a>> {
     let mut archive = open_shown::<K, F>(rt, opening.db)?;
+    if may_change(request) {
+        tell_early(rt.alloc(), &archive, opening.at, err);
+    }
     let done = ask(rt, &mut archive, opening, request, manner, out, err);
+    if let Err(stop) = &done {
+        words.find_for_request(rt.alloc(), &mut archive, request, stop);
+    }
     close::<K, F>(archive);
     done
 }
@@ -83,16 +93,21 @@ pub fn show_file<'a, K: Keeper + Drop, F: InFile<K>, W: Write>(
     done
 }
 
-/// Prints a line for each item that a suite of the archive of a database file shows, or an object of JSON.
+/// Prints a line for each item that a suite of the archive of a database file shows, or an object of JSON. If no suite has the codename,
+/// there are words for the refusal.
 pub fn list_file<'a, K: Keeper + Drop, F: InFile<K>, W: Write>(
     rt: &HostRuntime,
     db: &str,
     suite: &str,
     json: bool,
     out: &mut W,
+    words: &mut Words,
 ) -> Result<(), Stop<'a>> {
     let mut archive = open_shown::<K, F>(rt, db)?;
     let done = print::list(rt.alloc(), &mut archive, suite, json, out);
+    if let Err(stop) = &done {
+        words.find_for_suite(rt.alloc(), &archive, suite, stop);
+    }
     close::<K, F>(archive);
     done
 }

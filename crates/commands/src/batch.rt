@@ -16,11 +16,12 @@
 ghost use Rattle.std.specs.Prelude.{◌≡◌, ◌+◌, nat_le};
 
 use crate::database::{InFile, Opening, close, is_of_database, length_of, open_shown};
+use crate::escaped::Escaped;
 use crate::fault::Stop;
 use crate::files::{body_of, file_name, most_read, opened, read_of};
 use crate::print::{has_refused, print_arrived, print_report};
 use crate::progress::Progress;
-use crate::shown::Shown;
+use crate::slips::tell_early;
 use command_line::{ListRequest, Request, read_list};
 use keep::Keeper;
 use queue::{Archive, Command, Fault, Outcome, Promotion, Report};
@@ -127,7 +128,7 @@ fn delivery<'a, R: Files + AllocGlobal, E: Write>(
     progress: &mut Progress<'_, E>,
 ) -> Result<Option<Command>, Stop<'a>> {
     let Some(body) = readable(rt, opening.db, path, most)? else {
-        progress.tell(&Stop::Unreadable(Shown(path)))?;
+        progress.tell(&Stop::Unreadable(Escaped(path)))?;
         return Ok(None);
     };
     Ok(Some(Command::Deliver {
@@ -206,7 +207,7 @@ fn name_of<'l>(request: &ListRequest<'l>) -> &'l str {
 /// Prints words, each after a space and as it is shown, and ends the line.
 fn print_words<W: Write>(words: &[&str], out: &mut W) -> io::Result<()> {
     for word in words {
-        let word = Shown(word);
+        let word = Escaped(word);
         write!(out, " {word}")?;
     }
     out.write_all(b"\n")
@@ -289,11 +290,11 @@ fn print_promotion<'a, W: Write>(
 fn print_number<W: Write>(count: u64, request: &ListRequest<'_>, out: &mut W) -> io::Result<()> {
     match *request {
         Request::Copy { source, .. } => {
-            let source = Shown(source);
+            let source = Escaped(source);
             writeln!(out, "copied {count} {source}")
         }
         Request::Remove { name, .. } => {
-            let name = Shown(name);
+            let name = Escaped(name);
             writeln!(out, "removed {count} {name}")
         }
         _ => writeln!(out, "cleaned {count}"),
@@ -444,7 +445,7 @@ fn take_large<'a, R: Files + AllocGlobal, K: Keeper, W: Write, E: Write>(
     progress: &mut Progress<'_, E>,
 ) -> Result<bool, Stop<'a>> {
     let Some(mut file) = readable_file(rt, opening.db, path)? else {
-        progress.tell(&Stop::Unreadable(Shown(path)))?;
+        progress.tell(&Stop::Unreadable(Escaped(path)))?;
         progress.advance(1);
         return Ok(false);
     };
@@ -536,7 +537,8 @@ fn make_lines<'a, R: Files + AllocGlobal, K: Keeper, W: Write, E: Write>(
 }
 
 /// Makes the commands of lines over one opening of the archive of a database file, and says whether all were done and each file could be
-/// read. The number of lines that are done is shown on `err`, if that is a terminal.
+/// read. The suites with a date after the moment are named on `err` before. The number of lines that are done is shown there, if that is a
+/// terminal.
 fn make_in_file<'a, K: Keeper + Drop, F: InFile<K>, W: Write, E: Write>(
     rt: &HostRuntime,
     opening: Opening<'_>,
@@ -546,6 +548,7 @@ fn make_in_file<'a, K: Keeper + Drop, F: InFile<K>, W: Write, E: Write>(
     err: &mut E,
 ) -> Result<bool, Stop<'a>> {
     let mut archive = open_shown::<K, F>(rt, opening.db)?;
+    tell_early(rt.alloc(), &archive, opening.at, err);
     let mut progress = Progress::new(rt, err, "batch", "lines");
     let done = make_lines(
         rt,

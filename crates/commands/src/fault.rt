@@ -1,6 +1,6 @@
 //! Why the program ends before it is done.
 
-use crate::shown::{OwnedShown, Shown};
+use crate::escaped::{Escaped, OwnedEscaped};
 use command_line::BatchFault;
 use in_file::OpenFault;
 use keep::KeepFault;
@@ -15,7 +15,7 @@ use vers::VersionFault;
 #[derive(Debug, Drop, Error)]
 pub enum Stop<'a> {
     #[error("archive: cannot read {0}")]
-    Unreadable(Shown<'a>),
+    Unreadable(Escaped<'a>),
     /// This line of a list of commands, counted from 1, is neither a command nor passed over.
     #[error("archive: line {0}")]
     BadLine(usize),
@@ -42,13 +42,13 @@ pub enum Stop<'a> {
     NoVersion(VersionFault),
     /// A path below the folder of an export can't be written.
     #[error("archive: cannot write {0}")]
-    Unplaced(OwnedShown),
+    Unplaced(OwnedEscaped),
     /// A folder of an export shows this suite signed, and neither `--signed` nor `--unsigned` was given to the export.
     #[error("archive: suite {0} is signed in the tree: give --signed or --unsigned")]
-    Signed(OwnedShown),
+    Signed(OwnedEscaped),
     /// A component has the name of a file that an export writes beside its folder.
     #[error("archive: component {0} is named as a file of the tree")]
-    Named(OwnedShown),
+    Named(OwnedEscaped),
     /// The address can't be used, or a connection can't be accepted.
     #[error("archive: cannot listen")]
     CannotListen,

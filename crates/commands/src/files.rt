@@ -10,8 +10,8 @@
 ghost use Rattle.std.specs.Prelude.{◌≡◌, ◌+◌};
 ghost use Rattle.rules.specs.Sizes.{largest};
 
+use crate::escaped::Escaped;
 use crate::fault::Stop;
-use crate::shown::Shown;
 use keep::Keeper;
 use queue::{Archive, Fault};
 use std::fs::{self, File, Metadata};
@@ -47,7 +47,7 @@ fn read_file<R: Files + AllocGlobal>(rt: &R, path: &str, most: u64) -> io::Resul
 pub fn opened<'a, R: Files>(rt: &R, path: &'a str) -> Result<R::File, Stop<'a>> {
     match File::open(rt, path) {
         Ok(file) => Ok(file),
-        Err(_) => Err(Stop::Unreadable(Shown(path))),
+        Err(_) => Err(Stop::Unreadable(Escaped(path))),
     }
 }
 
@@ -58,7 +58,7 @@ pub fn read_of<'a>(read: io::Result<Vec<u8>>, path: &'a str) -> Result<Vec<u8>, 
         Err(error) if error.kind() == io::ErrorKind::OutOfMemory => {
             Err(Stop::Refused(Fault::OutOfMemory))
         }
-        Err(_) => Err(Stop::Unreadable(Shown(path))),
+        Err(_) => Err(Stop::Unreadable(Escaped(path))),
     }
 }
 
@@ -106,7 +106,7 @@ pub fn conf_body_of<'a, R: Files + AllocGlobal>(
     conf: &'a str,
 ) -> Result<Vec<u8>, Stop<'a>> {
     if may_wait(rt, conf) {
-        return Err(Stop::Unreadable(Shown(conf)));
+        return Err(Stop::Unreadable(Escaped(conf)));
     }
     body_of(rt, conf, MOST_CONF)
 }

@@ -7,12 +7,14 @@ mod ask;
 mod batch;
 mod configured;
 pub mod database;
+pub mod escaped;
 pub mod fault;
 mod files;
 mod line;
 mod print;
 pub mod progress;
-pub mod shown;
+pub mod slips;
 mod why;
+pub mod words;
 
 pub use line::{done, explain};

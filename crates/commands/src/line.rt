@@ -4,10 +4,11 @@ use crate::ask::{ask_file, configuration_file, list_file, show_file, why_file};
 use crate::batch::batch_file;
 use crate::configured::{check, configure, init, migrate};
 use crate::database::{InFile, Opening};
+use crate::escaped::Escaped;
 use crate::fault::{Stop, all_taken};
 use crate::files::{body_of, file_name, most_read};
-use crate::shown::Shown;
 use crate::why::Asked;
+use crate::words::Words;
 use command_line::{CommandLine, LineFault, line};
 use keep::{Keeper, PlainKeeper};
 use queue::{Archive, Fault};
@@ -99,12 +100,13 @@ fn compare<'a, W: Write>(
 }
 
 /// Carries out a line that asks the archive of a database file over keepers of this type, and says whether everything that was given was
-/// taken. For another line it does nothing.
+/// taken. For another line it does nothing. If it is refused, there may be words for the refusal.
 fn asked<'a, K: Keeper + Drop, F: InFile<K>, W: Write, E: Write>(
     rt: &HostRuntime,
     line: &CommandLine<'a>,
     out: &mut W,
     err: &mut E,
+    words: &mut Words,
 ) -> Result<bool, Stop<'a>> {
     match line {
         CommandLine::Ask {
@@ -112,7 +114,15 @@ fn asked<'a, K: Keeper + Drop, F: InFile<K>, W: Write, E: Write>(
             at,
             request,
             manner,
-        } => ask_file::<K, F, W, E>(rt, Opening { db, at: *at }, request, *manner, out, err),
+        } => ask_file::<K, F, W, E>(
+            rt,
+            Opening { db, at: *at },
+            request,
+            *manner,
+            out,
+            err,
+            words,
+        ),
         CommandLine::Batch {
             db,
             at,
@@ -121,7 +131,7 @@ fn asked<'a, K: Keeper + Drop, F: InFile<K>, W: Write, E: Write>(
         } => batch_file::<K, F, W, E>(rt, Opening { db, at: *at }, list, *strict, out, err),
         CommandLine::Show { db, path } => all_taken(show_file::<K, F, W>(rt, db, path, out)),
         CommandLine::List { db, suite, json } => {
-            all_taken(list_file::<K, F, W>(rt, db, suite, *json, out))
+            all_taken(list_file::<K, F, W>(rt, db, suite, *json, out, words))
         }
         CommandLine::Why { db, at, name, json } => {
             all_taken(why_file::<K, F, W>(rt, db, Asked::new(*at, *name, *json), out))
@@ -134,25 +144,29 @@ fn asked<'a, K: Keeper + Drop, F: InFile<K>, W: Write, E: Write>(
 }
 
 /// Carries out a line over keepers of this type, and says whether everything that was given was taken, and nothing passed over. For an
-/// export and a service it does nothing.
+/// export and a service it does nothing. Slips in what was given are named on `err`. If the line is refused, there may be words for the
+/// refusal.
 pub fn done<'a, K: Keeper + Drop, F: InFile<K>, W: Write, E: Write>(
     rt: &HostRuntime,
     line: &CommandLine<'a>,
     out: &mut W,
     err: &mut E,
+    words: &mut Words,
 ) -> Result<bool, Stop<'a>> {
     match line {
         CommandLine::Try { paths } => all_taken(try_upload(rt, paths, out)),
         CommandLine::Compare { left, right } => all_taken(compare(rt.alloc(), left, right, out)),
-        CommandLine::Check { conf } => check(rt, conf, out),
-        CommandLine::Init { db, at, conf } => all_taken(init::<K, F>(rt, db, *at, conf)),
+        CommandLine::Check { conf } => check(rt, conf, out, err, words),
+        CommandLine::Init { db, at, conf } => {
+            all_taken(init::<K, F, E>(rt, db, *at, conf, err, words))
+        }
         CommandLine::Configure { db, at, conf } => {
-            all_taken(configure::<K, F>(rt, db, *at, conf))
+            all_taken(configure::<K, F, E>(rt, db, *at, conf, err, words))
         }
         CommandLine::Migrate { from, db, at, conf } => {
-            all_taken(migrate::<K, F>(rt, from, db, *at, conf))
+            all_taken(migrate::<K, F, E>(rt, from, db, *at, conf, err, words))
         }
-        _ => asked::<K, F, W, E>(rt, line, out, err),
+        _ => asked::<K, F, W, E>(rt, line, out, err, words),
     }
 }
 
@@ -180,7 +194,7 @@ fn explained<W: Write, E: Write>(fault: &LineFault, out: &mut W, err: &mut E) ->
 fn shown_words(alloc: Global, words: &[&str]) -> Result<Vec<String>, AllocError> {
     let mut texts = Vec::new(alloc);
     for word in words {
-        let word = Shown(word);
+        let word = Escaped(word);
         texts.push(format!(in alloc; "{word}")?)?;
     }
     Ok(texts)

@@ -13,10 +13,10 @@ ghost use Rattle.rules.specs.Suites.{suite_named};
 ghost use Rattle.commands.specs.declared.fault.Stop.TheVariants.{NoArchive};
 
 use crate::database::{Opening, is_of_database, length_of};
+use crate::escaped::Escaped;
 use crate::fault::Stop;
 use crate::files::{body_of, file_name, most_read, opened};
 use crate::progress::Progress;
-use crate::shown::Shown;
 use keep::{FilePiece, KeepFault, Keeper, LATEST};
 use output::listing::{shown_json, shown_lines, verdict_json, waiting_json};
 use queue::{Archive, Arrived, Fault, Promotion, Report};
@@ -31,7 +31,7 @@ const MOST_TOGETHER: usize = 65_536;
 
 /// Prints a line, as it is shown.
 pub fn print_line<W: Write>(line: &str, out: &mut W) -> io::Result<()> {
-    let line = Shown(line);
+    let line = Escaped(line);
     writeln!(out, "{line}")
 }
 
@@ -75,7 +75,7 @@ pub fn print_arrived<'a, W: Write>(
     name: &str,
     out: &mut W,
 ) -> Result<bool, Stop<'a>> {
-    let name = Shown(name);
+    let name = Escaped(name);
     match arrived {
         Ok(Arrived::New) => writeln!(out, "new {name}")?,
         Ok(Arrived::Again) => writeln!(out, "again {name}")?,
@@ -135,7 +135,7 @@ fn put_other<'a, R: Files + AllocGlobal, K: Keeper, W: Write, E: Write>(
     progress: &mut Progress<'_, E>,
 ) -> Result<bool, Stop<'a>> {
     if is_of_database(rt, opening.db, path)? {
-        return Err(Stop::Unreadable(Shown(path)));
+        return Err(Stop::Unreadable(Escaped(path)));
     }
     put_file(rt, archive, opening.at, path, out, progress)
 }

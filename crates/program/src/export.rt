@@ -2,9 +2,9 @@
 
 use command_line::Exporting;
 use commands::database::{InFile, close, open_shown};
+use commands::escaped::OwnedEscaped;
 use commands::fault::Stop;
 use commands::progress::Progress;
-use commands::shown::OwnedShown;
 use exporting::{Export, ExportFault, Watcher};
 use keep::Keeper;
 use queue::Fault;
@@ -33,12 +33,12 @@ impl<'p, E: Write> Watcher for Steps<'p, E> {
 /// Why the program ends before it is done if an export does.
 pub fn stop_of<'a>(fault: ExportFault) -> Stop<'a> {
     match fault {
-        ExportFault::Place(path) => Stop::Unplaced(OwnedShown(path)),
+        ExportFault::Path(path) => Stop::Unplaced(OwnedEscaped(path)),
         ExportFault::Archive(fault) => Stop::Refused(fault),
         ExportFault::Unwritten => Stop::Unwritten,
         ExportFault::OutOfMemory => Stop::Refused(Fault::OutOfMemory),
-        ExportFault::Signed(codename) => Stop::Signed(OwnedShown(codename)),
-        ExportFault::Named(component) => Stop::Named(OwnedShown(component)),
+        ExportFault::Signed(codename) => Stop::Signed(OwnedEscaped(codename)),
+        ExportFault::Named(component) => Stop::Named(OwnedEscaped(component)),
     }
 }
 

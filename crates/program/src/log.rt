@@ -4,7 +4,7 @@
 //! shared with other processes, as a terminal is with its shell. So it is non-blocking only while a line is written. Without the descriptor
 //! for that (if too many files are open when `serve` begins) a write waits.
 
-use commands::shown::shown_bytes;
+use commands::escaped::escaped_bytes;
 use desk::{DeskFault, Served};
 use http::StatusCode;
 use std::alloc::{AllocError, Global};
@@ -53,7 +53,7 @@ fn status_text(alloc: Global, end: &Result<Served, DeskFault>) -> Result<String,
 /// The line of a connection: the moment that it had, the method and the path of its request, the status of its reply, how many bytes its
 /// client was sent, and how many milliseconds it lasted.
 fn line_of(alloc: Global, ended: &Ended<'_>) -> Result<String, AllocError> {
-    let line = shown_bytes(alloc, ended.line)?;
+    let line = escaped_bytes(alloc, ended.line)?;
     let mut words = line.as_str().split(' ');
     let (method, path) = (word_or_dash(words.next()), word_or_dash(words.next()));
     let status = status_text(alloc, &ended.end)?;

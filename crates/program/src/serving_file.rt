@@ -23,9 +23,11 @@ use crate::moments::Moments;
 use crate::notes::Notes;
 use crate::serving::{keep_room, patience, serve_at};
 use command_line::Serving;
+use commands::slips::early_lines;
 use exporting::{Export, Nobody};
 use keep::Keeper;
 use queue::Archive;
+use std::alloc::Global;
 use std::io::{self, Write};
 use std::net::TcpListener;
 use std::os::fd::AsFd;
@@ -135,18 +137,16 @@ fn serve_and_export<'a, K: Keeper, E: Write>(
     Ok(())
 }
 
-/// Opens the archive of a database file and serves `left` connections. Answers how many are left if its keeper is shut before the last, and
-/// else 0.
+/// Serves `left` connections over an archive, and closes it. Answers how many are left if its keeper is shut before the last, and else 0.
 fn serve_some<'a, K: Keeper + Drop, F: InFile<K>, E: Write>(
     rt: &HostRuntime,
-    db: &str,
+    mut archive: Archive<K>,
     listener: &io::Result<TcpListener>,
     left: u64,
     moments: &mut Moments<'_>,
     tree: Option<Tree<'_>>,
     notes: &mut Notes<'_, E>,
 ) -> Result<u64, Stop<'a>> {
-    let mut archive = open_archive::<K, F>(rt, db)?;
     let served = match tree {
         Some(tree) => serve_and_export(rt, &mut archive, listener, left, moments, tree, notes),
         None => serve_listener(rt, &mut archive, listener, left, moments, notes),
@@ -167,11 +167,41 @@ fn again<'a>(stop: Stop<'a>) -> Stop<'a> {
     }
 }
 
-/// Notes on an output that is standard error.
-fn notes_on<'l, E: Write>(rt: &HostRuntime, is_logged: bool, err: &'l mut E) -> Notes<'l, E> {
+/// Opens the archive of a database file once more, and serves `left` connections as `serve_some` does.
+fn serve_again<'a, K: Keeper + Drop, F: InFile<K>, E: Write>(
+    rt: &HostRuntime,
+    db: &str,
+    listener: &io::Result<TcpListener>,
+    left: u64,
+    moments: &mut Moments<'_>,
+    tree: Option<Tree<'_>>,
+    notes: &mut Notes<'_, E>,
+) -> Result<u64, Stop<'a>> {
+    let archive = open_archive::<K, F>(rt, db)?;
+    serve_some::<K, F, E>(rt, archive, listener, left, moments, tree, notes)
+}
+
+/// A log on an output that is standard error.
+fn log_on<'l, E: Write>(rt: &HostRuntime, err: &'l mut E) -> Log<'l, E> {
     let stderr = rt.stderr();
-    let log = Log::new(err, stderr.as_fd().try_clone_to_owned().ok());
-    Notes::new(log, is_logged)
+    Log::new(err, stderr.as_fd().try_clone_to_owned().ok())
+}
+
+/// Writes which suites of an archive have a date after a moment. A line that can't be written at once is left out.
+fn log_early<K: Keeper, E: Write>(
+    alloc: Global,
+    archive: &Archive<K>,
+    at: u64,
+    log: &mut Log<'_, E>,
+) {
+    let Ok(lines) = early_lines(alloc, archive, at) else {
+        return;
+    };
+    for line in &lines {
+        if let Ok(text) = format!(in alloc; "archive: {line}") {
+            log.write_text(alloc, text.as_str());
+        }
+    }
 }
 
 /// The folder that a serving of this database file exports to, if it does.
@@ -188,22 +218,23 @@ fn tree_of<'t>(db: &'t str, serving: &Serving<'t>) -> Option<Tree<'t>> {
     }
 }
 
-/// Serves `count` connections of a listener, and opens the archive once more each time that its keeper is shut.
+/// Serves `count` connections of a listener over the archive of a database file, and opens it once more each time that its keeper is shut.
 fn serve_all<'a, K: Keeper + Drop, F: InFile<K>, E: Write>(
     rt: &HostRuntime,
     db: &str,
+    archive: Archive<K>,
     listener: &io::Result<TcpListener>,
     count: u64,
     moments: &mut Moments<'_>,
     tree: Option<Tree<'_>>,
     notes: &mut Notes<'_, E>,
 ) -> Result<(), Stop<'a>> {
-    let mut left = serve_some::<K, F, E>(rt, db, listener, count, moments, tree, notes)?;
+    let mut left = serve_some::<K, F, E>(rt, archive, listener, count, moments, tree, notes)?;
     for _ in 1..count {
         if left == 0 {
             break;
         }
-        left = match serve_some::<K, F, E>(rt, db, listener, left, moments, tree, notes) {
+        left = match serve_again::<K, F, E>(rt, db, listener, left, moments, tree, notes) {
             Ok(left) => left,
             Err(stop) => return Err(again(stop)),
         };
@@ -212,8 +243,8 @@ fn serve_all<'a, K: Keeper + Drop, F: InFile<K>, E: Write>(
 }
 
 /// Serves the archive of a database file. The listener is made before the file is opened, so that clients wait meanwhile, and ends after it
-/// is closed. If the keeper is shut by a disk that fails, the file is opened again, and the rest of the connections is answered from what
-/// is found then.
+/// is closed. The suites with a date after the moment of the first connection are named on `err` before it is accepted. If the keeper is shut
+/// by a disk that fails, the file is opened again, and the rest of the connections is answered from what is found then.
 pub fn serve_file<'a, K: Keeper + Drop, F: InFile<K>, E: Write>(
     rt: &HostRuntime,
     db: &str,
@@ -223,8 +254,21 @@ pub fn serve_file<'a, K: Keeper + Drop, F: InFile<K>, E: Write>(
     keep_room(rt.alloc());
     let listener = TcpListener::bind(rt, serving.address);
     let mut moments = Moments::new(serving.at, serving.moments);
+    let mut first = moments;
     let tree = tree_of(db, &serving);
-    let mut notes = notes_on(rt, serving.log, err);
+    let mut log = log_on(rt, err);
+    let archive = open_archive::<K, F>(rt, db)?;
+    log_early(rt.alloc(), &archive, first.next(rt), &mut log);
+    let mut notes = Notes::new(log, serving.log);
     let count = serving.count;
-    serve_all::<K, F, E>(rt, db, &listener, count, &mut moments, tree, &mut notes)
+    serve_all::<K, F, E>(
+        rt,
+        db,
+        archive,
+        &listener,
+        count,
+        &mut moments,
+        tree,
+        &mut notes,
+    )
 }

@@ -8,10 +8,10 @@ ghost use Rattle.rules.specs.Configuration.{config_limit};
 ghost use Rattle.rules.specs.Fault.{of_paragraph};
 ghost use Rattle.output.specs.Fields.{is_known, unknown_among, unknown_behind};
 
+use crate::checking::near::Nearest;
 use para::{Field, Paragraph, Text, read_many};
 use rules::{ConfigFault, MOST_CONFIG};
 use std::alloc::{AllocError, Global};
-use strsim::levenshtein;
 
 /// The names of the fields of a configuration.
 const NAMES: [&str; 12] = [
@@ -28,9 +28,6 @@ const NAMES: [&str; 12] = [
     "ValidDays",
     "MaxFileSize",
 ];
-
-/// How many edits a name may be away from the one that is likely meant.
-const MOST_EDITS: usize = 3;
 
 /// Whether two names are the same, ASCII case ignored.
 fn is_same(name: &str, other: &str) -> bool
@@ -103,7 +100,10 @@ fn push_unknown(
 }
 
 /// The unknown fields of paragraphs, each with the number of its paragraph, counted from 0.
-fn unknown_of(alloc: Global, paragraphs: &[Paragraph<'_>]) -> Result<Vec<(usize, Text)>, AllocError>
+pub fn unknown_of(
+    alloc: Global,
+    paragraphs: &[Paragraph<'_>],
+) -> Result<Vec<(usize, Text)>, AllocError>
     ensures { IfOk result (λ found. found.items ≡ unknown_behind 0 paragraphs.now) }
 {
     let mut found = Vec::new(alloc);
@@ -124,57 +124,12 @@ pub fn unknown_fields(alloc: Global, text: &[u8]) -> Result<Vec<(usize, Text)>, 
     Ok(unknown_of(alloc, &paragraphs)?)
 }
 
-/// How many edits lead from one name to the other, ASCII case ignored.
-fn edits(alloc: Global, name: &str, other: &str) -> Result<usize, AllocError> {
-    let name = name.to_ascii_lowercase(alloc)?;
-    let other = other.to_ascii_lowercase(alloc)?;
-    levenshtein(alloc, name.as_str(), other.as_str())
-}
-
-/// Whether a letter is in a name, ASCII case ignored.
-fn is_in(letter: u8, name: &str) -> bool {
-    for other in name.as_bytes() {
-        if other.eq_ignore_ascii_case(&letter) {
-            return true;
-        }
-    }
-    false
-}
-
-/// How many letters of one name are not in the other, ASCII case ignored. At least this number of edits leads from one to the other.
-fn missing(known: &str, name: &str) -> usize {
-    let mut count = 0usize;
-    for letter in known.as_bytes() {
-        if !is_in(*letter, name) {
-            count = count.saturating_add(1);
-        }
-    }
-    count
-}
-
-/// Whether a name may be fewer than `edits` edits away from the other. This is asked first: most names are far from all others, and to
-/// count their edits takes far longer. The names of fields are ASCII, so their bytes are their characters.
-fn may_be_near(known: &str, name: &str, edits: usize) -> bool {
-    if known.len().abs_diff(name.len()) >= edits {
-        return false;
-    }
-    missing(known, name) < edits
-}
-
 /// The name of a field of a configuration that a name likely means: the nearest one, if it is at most three edits away, ASCII case ignored.
 /// An edit adds, removes or changes one character. If several are equally near, it is the first in the order of the names in docs.
 pub fn likely_name(alloc: Global, name: &str) -> Result<Option<&'static str>, AllocError> {
-    let mut likely = None;
-    let mut fewest = MOST_EDITS + 1;
+    let mut nearest = Nearest::new(name);
     for known in NAMES {
-        if !may_be_near(known, name, fewest) {
-            continue;
-        }
-        let count = edits(alloc, name, known)?;
-        if count < fewest {
-            fewest = count;
-            likely = Some(known);
-        }
+        nearest.look_at(alloc, known)?;
     }
-    Ok(likely)
+    Ok(nearest.found())
 }

@@ -1,6 +1,7 @@
 //! What a configuration says, suite by suite, and which of its fields are passed over.
 
-use crate::checking::fields::likely_name;
+use crate::checking::fields::{likely_name, unknown_of};
+use crate::checking::places::{name_of, numbered, paragraphs_of};
 use para::{Paragraph, Text, read_many};
 use rules::{Config, Days, MOST_CONFIG, Rule, SourcePattern, Suite};
 use std::alloc::{AllocError, Global};
@@ -190,12 +191,38 @@ fn codename_at(config: &Config, position: usize) -> &str {
     }
 }
 
-/// `passed over NAME in CODENAME`, followed by `, did you mean KNOWN` if a known name is near.
-fn passed_line(alloc: Global, name: &str, codename: &str) -> Result<String, AllocError> {
+/// `passed over NAME in PLACE`, followed by `, did you mean KNOWN` if a known name is near.
+fn passed_line(alloc: Global, name: &str, place: &str) -> Result<String, AllocError> {
     match likely_name(alloc, name)? {
-        Some(known) => format!(in alloc; "passed over {name} in {codename}, did you mean {known}"),
-        None => format!(in alloc; "passed over {name} in {codename}"),
+        Some(known) => format!(in alloc; "passed over {name} in {place}, did you mean {known}"),
+        None => format!(in alloc; "passed over {name} in {place}"),
     }
+}
+
+/// `passed over NAME in PLACE` for an unknown field of the paragraph of this number, counted from 0.
+fn passed_line_at(
+    alloc: Global,
+    paragraphs: &[Paragraph<'_>],
+    number: usize,
+    name: &str,
+) -> Result<String, AllocError> {
+    let place = match paragraphs.get(number) {
+        Some(paragraph) => name_of(alloc, paragraph, number)?,
+        None => numbered(alloc, number)?,
+    };
+    passed_line(alloc, name, place.as_str())
+}
+
+/// The fields that are passed over in the text of a configuration, which may be refused: `passed over NAME in CODENAME` for each, or in
+/// `paragraph N` if that has no plain name as its codename, followed by `, did you mean KNOWN` if a known name is near. There is no line if
+/// the text is no text of paragraphs.
+pub fn passed_lines(alloc: Global, text: &[u8]) -> Result<Vec<String>, AllocError> {
+    let paragraphs = paragraphs_of(alloc, text)?;
+    let mut lines = Vec::new(alloc);
+    for (number, name) in &unknown_of(alloc, &paragraphs)? {
+        lines.push(passed_line_at(alloc, &paragraphs, *number, name.as_str())?)?;
+    }
+    Ok(lines)
 }
 
 /// The lines on a configuration. For each suite:

@@ -12,9 +12,9 @@ const MARK: char = '?';
 /// A name or a word as it is printed: a question mark replaces each control character, which is one of U+0000 to U+001F or of U+007F to
 /// U+009F. So it can't forge a line, and is no command to a terminal.
 #[derive(Clone, Copy, Debug)]
-pub struct Shown<'s>(pub &'s str);
+pub struct Escaped<'s>(pub &'s str);
 
-impl fmt::Display for Shown<'_> {
+impl fmt::Display for Escaped<'_> {
     fn fmt<W: fmt::Write>(&self, f: &mut fmt::Formatter<W>) -> fmt::Result {
         let mut is_first = true;
         for piece in self.0.split(char::is_control) {
@@ -30,16 +30,16 @@ impl fmt::Display for Shown<'_> {
 
 /// A name as it is printed, which is kept.
 #[derive(Debug, Drop)]
-pub struct OwnedShown(pub String);
+pub struct OwnedEscaped(pub String);
 
-impl fmt::Display for OwnedShown {
+impl fmt::Display for OwnedEscaped {
     fn fmt<W: fmt::Write>(&self, f: &mut fmt::Formatter<W>) -> fmt::Result {
-        write!(f, "{}", Shown(self.0.as_str()))
+        write!(f, "{}", Escaped(self.0.as_str()))
     }
 }
 
 /// Unknown bytes as they are printed: a question mark replaces each byte that is not in 0x20 to 0x7E.
-pub fn shown_bytes(alloc: Global, bytes: &[u8]) -> Result<String, AllocError> {
+pub fn escaped_bytes(alloc: Global, bytes: &[u8]) -> Result<String, AllocError> {
     let mut text = String::new(alloc);
     for byte in bytes {
         text.push(match byte {
