@@ -4,7 +4,7 @@ use Rattle.std.specs.Fmt.{format_spec, decimal, styled_decimal}
 use Rattle.std.specs.declared.string.String.{String}
 use Rattle.std.specs.declared.alloc.Global.{Global}
 use Rattle.hex.specs.Hex.{encode_lower}
-use Rattle.exported.specs.declared.manifest.Shown.{Shown}
+use Rattle.exported.specs.declared.manifest.ShownStates.{ShownStates}
 use Rattle.exported.specs.declared.manifest.Word.{Word}
 use Rattle.exported.specs.declared.manifest.Word.TheVariants.{Here, Coming, Left}
 
@@ -29,5 +29,5 @@ abbrev pub word_before : Option (String Global) → List ℕ
 word_before (Some state) = string_bytes state
 word_before None = codes "-"
 
-abbrev pub shown_line : List ℕ → Shown → List ℕ
+abbrev pub shown_line : List ℕ → ShownStates → List ℕ
 shown_line codename shown = states_line codename (string_bytes shown.state) (word_before shown.before)

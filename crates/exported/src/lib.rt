@@ -4,7 +4,7 @@
 mod manifest;
 mod names;
 
-pub use manifest::{Known, Manifest, Shown, Stamp, Vouched, Word};
+pub use manifest::{Known, Manifest, ShownStates, Stamp, Vouched, Word};
 pub use names::{
     OWN, folder_of, has_parts, is_name, is_pool_path, is_state_of, new_name, state_name,
 };

@@ -61,12 +61,12 @@ pub struct Known {
 
 /// The states of a suite: the one that was shown, and the one that was shown before it, if it is known.
 #[derive(Drop)]
-pub struct Shown {
+pub struct ShownStates {
     pub state: String,
     pub before: Option<String>,
 }
 
-impl Shown {
+impl ShownStates {
     /// The state that was shown before, if it is known.
     pub fn before(&self) -> Option<&str> {
         match &self.before {
@@ -85,7 +85,7 @@ impl Shown {
 #[derive(Drop)]
 pub struct Manifest {
     words: BTreeMap<String, Known>,
-    shown: BTreeMap<String, Shown>,
+    shown: BTreeMap<String, ShownStates>,
     /// Whether something differs from what was read.
     is_changed: bool,
     // No path leads out of the pool.
@@ -143,7 +143,7 @@ fn states_line(
 }
 
 /// The line of a suite, without its newline.
-fn shown_line(alloc: Global, codename: &str, shown: &Shown) -> Result<String, AllocError>
+fn shown_line(alloc: Global, codename: &str, shown: &ShownStates) -> Result<String, AllocError>
     ensures { IfOk result (λ line. string_bytes line ≡ line_of_suite codename.now shown.now) }
 {
     let state = shown.state.as_str();
@@ -289,7 +289,7 @@ impl Manifest {
             Some(before) => Some(String::from_str(alloc, before)?),
             None => None,
         };
-        let shown = Shown {
+        let shown = ShownStates {
             state: String::from_str(alloc, state)?,
             before,
         };
@@ -338,12 +338,12 @@ impl Manifest {
     }
 
     /// What a suite showed when the manifest was written.
-    pub fn shown(&self, codename: &str) -> Option<&Shown> {
+    pub fn shown(&self, codename: &str) -> Option<&ShownStates> {
         self.shown.get(codename)
     }
 
     /// The codenames of all suites, with what each showed when the manifest was written.
-    pub fn states(&self) -> &BTreeMap<String, Shown> {
+    pub fn states(&self) -> &BTreeMap<String, ShownStates> {
         &self.shown
     }
 

@@ -2,7 +2,7 @@
 
 use folders::Disk;
 use suites::Shelves;
-use tree_files::{Site, Wanted};
+use tree_files::{Site, SuiteState};
 
 /// What an export is asked for.
 #[derive(Clone, Copy, Debug)]
@@ -53,7 +53,7 @@ pub struct Job<'j, R: Disk> {
     pub by_hash: bool,
     pub shelves: &'j Shelves,
     /// The suites in the order of the configuration.
-    pub suites: &'j [Wanted],
+    pub suites: &'j [SuiteState],
     /// Whether each file of the pool is on the disk before an index names it.
     pub is_synced: bool,
 }

@@ -20,18 +20,18 @@ use std::io;
 use suites::Shelves;
 use tree::Step;
 use tree_files::{
-    Counts, Site, Standing, Wanted, counts_of, has_lost_signature, kept_of, leave, leave_suites,
-    look, manifest_of, opened_folders, remove_cut, remove_old_states, save, steps_of,
+    Counts, Site, Standing, SuiteState, counts_of, has_lost_signature, kept_of, leave,
+    leave_suites, look, manifest_of, opened_folders, remove_cut, remove_old_states, save, steps_of,
 };
 
 /// The most new files of the pool that one export syncs before an index names them. If there are more, none of them is synced, and the next
 /// export reads them back.
 const MOST_SYNCED: usize = 256;
 
-/// The path of a tree's folder without the slashes at its end. An empty path is refused as `Place`.
+/// The path of a tree's folder without the slashes at its end. An empty path is refused as `Path`.
 fn root_of<'a>(alloc: Global, folder: &'a str) -> Result<&'a str, ExportFault> {
     if folder.is_empty() {
-        return Err(ExportFault::Place(String::new(alloc)));
+        return Err(ExportFault::Path(String::new(alloc)));
     }
     Ok(folder.trim_end_matches('/'))
 }
@@ -48,7 +48,7 @@ fn locked(rt: &HostRuntime, own: &Folder<HostRuntime>) -> Result<File, FolderFau
 #[derive(Drop)]
 struct Done {
     /// The suites, with what they show.
-    suites: Vec<Wanted>,
+    suites: Vec<SuiteState>,
     /// The suites that left the tree.
     gone: Vec<String>,
     counts: Counts,
@@ -94,7 +94,7 @@ fn found_suites<R: Disk, K: Keeper>(
     site: &Site<R>,
     asked: &Export<'_>,
     manifest: &Manifest,
-) -> Result<Vec<Wanted>, ExportFault>
+) -> Result<Vec<SuiteState>, ExportFault>
     ensures reads { Reads K.Keeper archive.old.keeper archive.new.keeper }
 {
     let mut suites = wanted_suites(rt, archive, site, asked.signed, manifest)?;
@@ -146,7 +146,7 @@ fn said(done: io::Result<()>) -> Result<(), ExportFault> {
 }
 
 /// Prints what a suite shows.
-fn print_suite<W: io::Write>(suite: &Wanted, is_unsigned: bool, out: &mut W) -> io::Result<()> {
+fn print_suite<W: io::Write>(suite: &SuiteState, is_unsigned: bool, out: &mut W) -> io::Result<()> {
     let (codename, state) = (suite.codename.as_str(), suite.state.as_str());
     match suite.standing {
         Standing::Same => writeln!(out, "same {codename}")?,
@@ -167,7 +167,7 @@ fn print_suite<W: io::Write>(suite: &Wanted, is_unsigned: bool, out: &mut W) -> 
 fn print_suites<R: Disk, W: io::Write>(
     rt: &R,
     site: &Site<R>,
-    suites: &[Wanted],
+    suites: &[SuiteState],
     out: &mut W,
 ) -> Result<(), ExportFault> {
     for suite in suites {
@@ -269,7 +269,7 @@ fn site_of<R: Disk>(
 /// there, how many are left that no longer belong to it, and how many were removed. Its progress is reported to `watcher`.
 ///
 /// The archive stays as it is. Refused as `Archive(Fault::Moment)` for a moment after 2099, as `Named` if no tree can have a component, as
-/// `Signed` if a suite of the tree is signed and neither `signed` nor `unsigned` is asked for, as `Archive` if the keeper fails, as `Place`
+/// `Signed` if a suite of the tree is signed and neither `signed` nor `unsigned` is asked for, as `Archive` if the keeper fails, as `Path`
 /// if the disk fails or another export goes on in the folder, as `Unwritten` if the output fails, and for want of memory.
 pub fn export<K: Keeper, W: io::Write, T: Watcher>(
     rt: &HostRuntime,

@@ -13,7 +13,7 @@ pub enum ExportFault {
     /// Nothing can be written at this path: the disk is full or fails, permission is denied, a link or a file stands at the place of a
     /// folder or a folder at that of a file, the file is the database's, or another export holds the lock. It is the first path that
     /// failed.
-    Place(String),
+    Path(String),
     /// The suite of this codename shows a signed state, and the export is asked neither to wait for signatures nor to do without them.
     Signed(String),
     /// A component has this name, which is that of a file in the folder of a state.
@@ -42,7 +42,7 @@ fn write_shown<W: fmt::Write>(f: &mut fmt::Formatter<W>, path: &str) -> fmt::Res
 impl fmt::Display for ExportFault {
     fn fmt<W: fmt::Write>(&self, f: &mut fmt::Formatter<W>) -> fmt::Result {
         match self {
-            ExportFault::Place(path) => {
+            ExportFault::Path(path) => {
                 f.write_str("cannot write ")?;
                 write_shown(f, path.as_str())
             }
@@ -95,7 +95,7 @@ impl From<KeepFault> for ExportFault {
 impl From<FolderFault> for ExportFault {
     fn from(fault: FolderFault) -> ExportFault {
         match fault {
-            FolderFault::Place(path) => ExportFault::Place(path),
+            FolderFault::Path(path) => ExportFault::Path(path),
             FolderFault::OutOfMemory => ExportFault::OutOfMemory,
         }
     }

@@ -14,9 +14,9 @@ use pages::suite_page;
 use queue::Archive;
 use std::alloc::Global;
 use texts::path_in;
-use tree_files::{PAGE, Wanted, add_by_hash, move_state, touch_release, write_in};
+use tree_files::{PAGE, SuiteState, add_by_hash, move_state, touch_release, write_in};
 
-/// The bytes at a path of the archive. An export asks for those that the archive has: any other path is refused as `Place`.
+/// The bytes at a path of the archive. An export asks for those that the archive has: any other path is refused as `Path`.
 fn body_at<K: Keeper>(
     alloc: Global,
     archive: &mut Archive<K>,
@@ -27,7 +27,7 @@ fn body_at<K: Keeper>(
 {
     match archive.fetch(alloc, path)? {
         Some(body) => Ok(body),
-        None => Err(ExportFault::Place(String::from_str(alloc, path)?)),
+        None => Err(ExportFault::Path(String::from_str(alloc, path)?)),
     }
 }
 
@@ -66,7 +66,7 @@ fn write_texts<R: Disk, K: Keeper>(
     rt: &R,
     archive: &mut Archive<K>,
     kept: &Kept,
-    suite: &Wanted,
+    suite: &SuiteState,
     folder: &Folder<R>,
 ) -> Result<(), ExportFault>
     ensures reads { Reads K.Keeper archive.old.keeper archive.new.keeper }
@@ -89,7 +89,7 @@ fn fill<R: Disk, K: Keeper>(
     rt: &R,
     archive: &mut Archive<K>,
     job: &Job<'_, R>,
-    suite: &Wanted,
+    suite: &SuiteState,
     folder: &Folder<R>,
 ) -> Result<(), ExportFault>
     ensures reads { Reads K.Keeper archive.old.keeper archive.new.keeper }
@@ -110,7 +110,7 @@ fn make_filled<R: Disk, K: Keeper>(
     rt: &R,
     archive: &mut Archive<K>,
     job: &Job<'_, R>,
-    suite: &Wanted,
+    suite: &SuiteState,
     name: &str,
 ) -> Result<(), ExportFault>
     ensures reads { Reads K.Keeper archive.old.keeper archive.new.keeper }
@@ -125,7 +125,7 @@ fn make_folder_of<R: Disk, K: Keeper>(
     rt: &R,
     archive: &mut Archive<K>,
     job: &Job<'_, R>,
-    suite: &Wanted,
+    suite: &SuiteState,
 ) -> Result<(), ExportFault>
     ensures reads { Reads K.Keeper archive.old.keeper archive.new.keeper }
 {
@@ -144,7 +144,7 @@ pub fn make_state<R: Disk, K: Keeper>(
     rt: &R,
     archive: &mut Archive<K>,
     job: &Job<'_, R>,
-    suite: &Wanted,
+    suite: &SuiteState,
 ) -> Result<(), ExportFault>
     ensures reads { Reads K.Keeper archive.old.keeper archive.new.keeper }
 {

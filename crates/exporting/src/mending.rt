@@ -10,7 +10,7 @@ use keep::Keeper;
 use pages::suite_page;
 use queue::Archive;
 use suites::Shelves;
-use tree_files::{PAGE, Site, Wanted, mend_file};
+use tree_files::{PAGE, Site, SuiteState, mend_file};
 
 /// Mends a text of a state, if it is not as the archive has it. Answers how many it mended: 1 or 0.
 fn mend_text<R: Disk, K: Keeper>(
@@ -33,7 +33,7 @@ fn mend_texts<R: Disk, K: Keeper>(
     rt: &R,
     archive: &mut Archive<K>,
     site: &Site<R>,
-    suite: &Wanted,
+    suite: &SuiteState,
     state: &Folder<R>,
 ) -> Result<usize, ExportFault>
     ensures reads { Reads K.Keeper archive.old.keeper archive.new.keeper }
@@ -60,7 +60,7 @@ fn mend_page<R: Disk, K: Keeper>(
     archive: &Archive<K>,
     site: &Site<R>,
     shelves: &Shelves,
-    suite: &Wanted,
+    suite: &SuiteState,
     state: &Folder<R>,
 ) -> Result<usize, ExportFault> {
     if state.is_file(rt, PAGE)? {
@@ -76,7 +76,7 @@ fn mend_state<R: Disk, K: Keeper>(
     archive: &mut Archive<K>,
     site: &Site<R>,
     shelves: &Shelves,
-    suite: &Wanted,
+    suite: &SuiteState,
 ) -> Result<usize, ExportFault>
     ensures reads { Reads K.Keeper archive.old.keeper archive.new.keeper }
 {
@@ -100,7 +100,7 @@ pub fn mend_states<R: Disk, K: Keeper>(
     archive: &mut Archive<K>,
     site: &Site<R>,
     shelves: &Shelves,
-    suites: &mut [Wanted],
+    suites: &mut [SuiteState],
 ) -> Result<(), ExportFault>
     ensures reads { Reads K.Keeper archive.old.keeper archive.new.keeper }
 {

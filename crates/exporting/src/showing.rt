@@ -41,7 +41,7 @@ fn make_step<R: Disk, K: Keeper>(
     ensures reads { Reads K.Keeper archive.old.keeper archive.new.keeper }
 {
     match step {
-        Step::Place(file) => place_file(rt, archive, job, file, manifest),
+        Step::Write(file) => place_file(rt, archive, job, file, manifest),
         Step::Show(position) => show_suite(rt, archive, job, *position),
         Step::Remove(path) => Ok(remove_left(rt, job.site, path.as_str(), manifest)?),
     }

@@ -12,7 +12,7 @@ use keep::Keeper;
 use queue::Archive;
 use rules::Config;
 use std::alloc::Global;
-use tree_files::{Site, Wanted, find_all_shown, shows_signed, taken_component, unknown_suites};
+use tree_files::{Site, SuiteState, find_all_shown, shows_signed, taken_component, unknown_suites};
 
 /// The name of the state that a suite is to show.
 fn wanted_state<K: Keeper>(
@@ -32,7 +32,7 @@ fn wanted_state<K: Keeper>(
 fn find_states<K: Keeper>(
     alloc: Global,
     archive: &mut Archive<K>,
-    suites: &mut [Wanted],
+    suites: &mut [SuiteState],
 ) -> Result<(), ExportFault>
     ensures reads { Reads K.Keeper archive.old.keeper archive.new.keeper }
 {
@@ -50,7 +50,7 @@ pub fn wanted_suites<R: Disk, K: Keeper>(
     site: &Site<R>,
     is_waiting: bool,
     manifest: &Manifest,
-) -> Result<Vec<Wanted>, ExportFault>
+) -> Result<Vec<SuiteState>, ExportFault>
     ensures reads { Reads K.Keeper archive.old.keeper archive.new.keeper }
 {
     let mut suites = unknown_suites(rt.alloc(), archive.keeper.config())?;
@@ -63,7 +63,7 @@ pub fn wanted_suites<R: Disk, K: Keeper>(
 pub fn refuse_signed<R: Disk>(
     rt: &R,
     site: &Site<R>,
-    suites: &[Wanted],
+    suites: &[SuiteState],
 ) -> Result<(), ExportFault> {
     for suite in suites {
         if shows_signed(rt, site, suite)? {

@@ -7,7 +7,7 @@ use std::io::{self, ErrorKind};
 #[derive(Debug, Drop)]
 pub enum FolderFault {
     /// The disk failed at this path, or there is something that is not to be replaced.
-    Place(String),
+    Path(String),
     /// No memory was left.
     OutOfMemory,
 }
@@ -43,7 +43,7 @@ pub fn fault_at(alloc: Global, path: &str, error: &io::Error) -> FolderFault {
 /// The fault of a path at which something else is.
 pub fn place_fault(alloc: Global, path: &str) -> FolderFault {
     match String::from_str(alloc, path) {
-        Ok(path) => FolderFault::Place(path),
+        Ok(path) => FolderFault::Path(path),
         Err(_) => FolderFault::OutOfMemory,
     }
 }

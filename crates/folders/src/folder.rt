@@ -83,7 +83,7 @@ impl<R: Disk> Folder<R> {
     /// Opens the folder at a path. It and those above it are made, if they are not there. Links on the way are followed. The empty path is the
     /// root of the file system.
     ///
-    /// Refused as `Place` of the path if it cannot be opened, and for want of memory.
+    /// Refused as `Path` of the path if it cannot be opened, and for want of memory.
     pub fn open(rt: &R, path: &str) -> Result<Folder<R>, FolderFault> {
         let alloc = rt.alloc();
         let whole = if path.is_empty() { "/" } else { path };
@@ -181,7 +181,7 @@ impl<R: Disk> Folder<R> {
 
     /// Makes the folder of a name in this one, if nothing has the name, and opens it.
     ///
-    /// Refused as `Place` of its path if something else has the name or the disk fails, and for want of memory.
+    /// Refused as `Path` of its path if something else has the name or the disk fails, and for want of memory.
     pub fn make(&self, rt: &R, name: &str) -> Result<Folder<R>, FolderFault> {
         let alloc = rt.alloc();
         let place = self.place_of(alloc, name)?;

@@ -66,7 +66,7 @@ impl Kept {
         self.ids.iter().any(|kept| *kept == id)
     }
 
-    /// Refuses a name in a folder as `Place` if what has it is kept.
+    /// Refuses a name in a folder as `Path` if what has it is kept.
     pub fn spare<R: Disk>(
         &self,
         rt: &R,

@@ -39,7 +39,7 @@ impl<R: Disk> Folder<R> {
 
     /// The regular file of a name in this folder, open to be read. It is `None` if nothing has the name, or something else has it.
     ///
-    /// Refused as `Place` if it cannot be opened, and for want of memory.
+    /// Refused as `Path` if it cannot be opened, and for want of memory.
     pub fn opened(&self, rt: &R, name: &str) -> Result<Option<R::File>, FolderFault> {
         let place = self.place_of(rt.alloc(), name)?;
         self.given(rt.alloc(), name, open_kind(rt, place.as_str(), false))

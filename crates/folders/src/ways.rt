@@ -48,7 +48,7 @@ impl<R: Disk> Folder<R> {
 
     /// The folder at a path in this one, open. It and those on the way to it are made, if they are not there. The path is not empty.
     ///
-    /// Refused as `Place` of the first folder on the way that cannot be made or opened, and for want of memory.
+    /// Refused as `Path` of the first folder on the way that cannot be made or opened, and for want of memory.
     pub fn way_made(&self, rt: &R, path: &str) -> Result<Folder<R>, FolderFault> {
         let mut last = None;
         for name in path.split('/') {
@@ -60,7 +60,7 @@ impl<R: Disk> Folder<R> {
         }
     }
 
-    /// Removes what has a name in this folder, unless it is a folder. Refused as `Place` if it is kept.
+    /// Removes what has a name in this folder, unless it is a folder. Refused as `Path` if it is kept.
     fn clear(&self, rt: &R, kept: &Kept, name: &str) -> Result<(), FolderFault> {
         match self.seen(rt, name)? {
             Some(seen) if !seen.is_dir() => self.remove(rt, kept, name),
@@ -89,7 +89,7 @@ impl<R: Disk> Folder<R> {
         }
     }
 
-    /// Opens the folder at a path as `way_made` does, but removes what is on the way and is not a folder. Refused as `Place` if that is
+    /// Opens the folder at a path as `way_made` does, but removes what is on the way and is not a folder. Refused as `Path` if that is
     /// kept.
     pub fn way_cleared(&self, rt: &R, kept: &Kept, path: &str) -> Result<Folder<R>, FolderFault> {
         let mut last = None;

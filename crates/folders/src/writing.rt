@@ -50,7 +50,7 @@ impl<R: Disk> Folder<R> {
     /// Removes the file or the link of a name in this folder, if there is one. It is removed without being opened, so a link is not
     /// followed.
     ///
-    /// Refused as `Place` if it is kept, if a folder has the name, or if the disk fails, and for want of memory.
+    /// Refused as `Path` if it is kept, if a folder has the name, or if the disk fails, and for want of memory.
     pub fn remove(&self, rt: &R, kept: &Kept, name: &str) -> Result<(), FolderFault> {
         kept.spare(rt, self, name)?;
         let place = self.place_of(rt.alloc(), name)?;
@@ -68,7 +68,7 @@ impl<R: Disk> Folder<R> {
 
     /// Removes what has a name in this folder, a folder with all that is in it.
     ///
-    /// Refused as `Place` if it is kept, or something in it, or if the disk fails, and for want of memory.
+    /// Refused as `Path` if it is kept, or something in it, or if the disk fails, and for want of memory.
     pub fn remove_all(&self, rt: &R, kept: &Kept, name: &str) -> Result<(), FolderFault> {
         match self.seen(rt, name)? {
             Some(seen) if seen.is_dir() => self.remove_folder(rt, kept, name),
@@ -86,7 +86,7 @@ impl<R: Disk> Folder<R> {
     /// Begins a new file with a name in this folder, which is open to be written on and has no byte yet. A file or a link that has the name
     /// is removed before.
     ///
-    /// Refused as `Place` if that is kept, if a folder has the name, or if the disk fails, and for want of memory.
+    /// Refused as `Path` if that is kept, if a folder has the name, or if the disk fails, and for want of memory.
     pub fn begin_new(&self, rt: &R, kept: &Kept, name: &str) -> Result<R::File, FolderFault> {
         self.remove(rt, kept, name)?;
         let place = self.place_of(rt.alloc(), name)?;
@@ -96,7 +96,7 @@ impl<R: Disk> Folder<R> {
 
     /// Writes the next bytes on a new file of a name in this folder, which was begun.
     ///
-    /// Refused as `Place` if the disk fails, and for want of memory.
+    /// Refused as `Path` if the disk fails, and for want of memory.
     pub fn write_on<W: Write>(
         &self,
         alloc: Global,
@@ -115,7 +115,7 @@ impl<R: Disk> Folder<R> {
 
     /// Ends a new file of a name in this folder, which was written on: it is on the disk if that is asked, and is closed.
     ///
-    /// Refused as `Place` if the disk fails, and for want of memory.
+    /// Refused as `Path` if the disk fails, and for want of memory.
     pub fn end_new(
         &self,
         alloc: Global,
@@ -130,7 +130,7 @@ impl<R: Disk> Folder<R> {
     /// Writes a new file with a name in this folder, and has it on the disk if that is asked. A file or a link that has the name is removed
     /// before.
     ///
-    /// Refused as `Place` if that is kept, if a folder has the name, or if the disk fails, and for want of memory.
+    /// Refused as `Path` if that is kept, if a folder has the name, or if the disk fails, and for want of memory.
     pub fn write_new(
         &self,
         rt: &R,
@@ -146,7 +146,7 @@ impl<R: Disk> Folder<R> {
 
     /// Renames what has a name in this folder to a name in another one, in the place of the file or the link that has that.
     ///
-    /// Refused as `Place` of the new name if what has it is kept, if it is a folder's, or if the disk fails, and for want of memory.
+    /// Refused as `Path` of the new name if what has it is kept, if it is a folder's, or if the disk fails, and for want of memory.
     pub fn move_to(
         &self,
         rt: &R,
@@ -178,7 +178,7 @@ impl<R: Disk> Folder<R> {
 
     /// Makes a link with a name in this folder, which leads to a name. A file or a link that has the name is removed before.
     ///
-    /// Refused as `Place` if that is kept, if a folder has the name, or if the disk fails, and for want of memory.
+    /// Refused as `Path` if that is kept, if a folder has the name, or if the disk fails, and for want of memory.
     pub fn link(&self, rt: &R, kept: &Kept, name: &str, target: &str) -> Result<(), FolderFault> {
         self.remove(rt, kept, name)?;
         let place = self.place_of(rt.alloc(), name)?;
@@ -197,7 +197,7 @@ impl<R: Disk> Folder<R> {
     /// The regular file of a name in this folder, open to be written. It is made, if nothing has the name. It is `None` if something else
     /// has the name.
     ///
-    /// Refused as `Place` if it cannot be opened, and for want of memory.
+    /// Refused as `Path` if it cannot be opened, and for want of memory.
     pub fn opened_to_write(&self, rt: &R, name: &str) -> Result<Option<R::File>, FolderFault> {
         let place = self.place_of(rt.alloc(), name)?;
         let done = open_or_make(rt, place.as_str());

@@ -8,7 +8,7 @@ use Rattle.keep.specs.declared.arrival.Arrival.{Arrival}
 use Rattle.keep.proofs.Moments.{current-none}
 use Rattle.history.specs.Answers.{answer}
 use Rattle.history.specs.Archives.{book_from, book_of}
-use Rattle.history.specs.Histories.{Cleaning, Count, History, Reply, Step, arrived, counting, followed}
+use Rattle.history.specs.Histories.{Cleaning, Count, History, Reply, Turn, arrived, counting, followed}
 use Rattle.history.specs.declared.fault.Fault.{Fault}
 use Rattle.history.specs.declared.fault.Fault.TheVariants.{Moment}
 use Rattle.history.proofs.Steps.{book_of-cleaned, book_of-refused}
@@ -20,7 +20,7 @@ no_span config none = ap (option_map (λ (days : ℕ). days * 86400)) none
 all_current : (seconds : Option ℕ) (moment : ℕ) (arrivals : List Arrival) → seconds ≡ None → current seconds moment arrivals ≡ arrivals
 all_current seconds moment arrivals none = ap (λ (s : Option ℕ). current s moment arrivals) none ∙ current-none moment arrivals
 
-pub all_count : (opening : Book) (steps : List Step) (moment : ℕ) → opening.config.keep_days ≡ None → counting opening steps moment ≡ arrived opening steps
+pub all_count : (opening : Book) (steps : List Turn) (moment : ℕ) → opening.config.keep_days ≡ None → counting opening steps moment ≡ arrived opening steps
 unfolding counting
 all_count opening steps moment none = all_current (span opening.config) moment (arrived opening steps) (no_span opening.config none)
 

@@ -19,7 +19,7 @@ use Rattle.keep.specs.Book.{Book, Candidate, at_moment, candidate_of, candidates
 use Rattle.keep.specs.Keeping.{NoCollision}
 use Rattle.keep.specs.declared.arrival.Arrival.{Arrival}
 use Rattle.history.specs.Before.{before_each, before_each-push}
-use Rattle.history.specs.Histories.{Call, Delivery, QueueRun, Copying, Lookup, WaitingList, Cleaning, Removing, Promoting, VerdictList, Reply, Step, History, arrived, bodies_of_call, completes, counting, due_after, has_come, waiting_after, was_judged}
+use Rattle.history.specs.Histories.{Call, Delivery, QueueRun, Copying, Lookup, WaitingList, Cleaning, Removing, Promoting, VerdictList, Reply, Turn, History, arrived, bodies_of_call, completes, counting, due_after, has_come, waiting_after, was_judged}
 use Rattle.history.specs.Archives.{PlainArchive, Whole, Copy, Remove, Promote, acted, acts_of, all_acts, archive, archive_of, book_from, book_of, copied, copied_all, removed, sources_in, suite_named, whole, whole_of, with_admitted}
 use Rattle.history.specs.Answers.{IsFaithful}
 use Rattle.history.specs.declared.fault.Fault.{Fault}
@@ -183,7 +183,7 @@ promotions_judge config (Some from) None sources moment a = refl
 promotions_judge config (Some from) (Some to) sources moment a = copied_all_judge config moment from to (sources_in a from sources) a
 
 -- one of the uploads that are due has the name and the print of c exactly if c has come, is complete and was not judged
-any_due : (bodies : List (List ℕ)) → NoCollision bodies → (opening : Book) (steps : List Step) (moment : ℕ) → ArrivalsHave (Contains bodies) (counting opening steps moment)
+any_due : (bodies : List (List ℕ)) → NoCollision bodies → (opening : Book) (steps : List Turn) (moment : ℕ) → ArrivalsHave (Contains bodies) (counting opening steps moment)
     → (c : Candidate) → IsOf (Contains bodies) c
     → list_any (is_signed c) (due_after opening steps moment)
     ≡ ((not (was_judged opening steps c) && is_complete (counting opening steps moment) c) && has_come (counting opening steps moment) c)
@@ -219,12 +219,12 @@ any_due bodies apart opening steps moment h c hc =
         ∙ and_assoc (p d) (q d) (is_twin c d)
         ∙ moved (λ x. p x && q x) d (is_twin c d) (twin_is c d hc.0 hd.0)
 
-was_judged-push : (opening : Book) (steps : List Step) (call : Call) (outcome : Result Reply Fault) (c : Candidate)
+was_judged-push : (opening : Book) (steps : List Turn) (call : Call) (outcome : Result Reply Fault) (c : Candidate)
     → was_judged opening (steps ++ step_of call outcome ∷ []) c
     ≡ (was_judged opening steps c || completes opening steps c call outcome)
 unfolding was_judged
 was_judged-push opening steps call outcome c =
-    let t : List Step × Step → Bool = λ p. completes opening p.0 c p.1.call p.1.outcome in
+    let t : List Turn × Turn → Bool = λ p. completes opening p.0 c p.1.call p.1.outcome in
     ap (λ ps. is_judged opening.judged c || list_any t ps) (before_each-push steps (step_of call outcome))
     ∙ ap (λ b. is_judged opening.judged c || b) (list_any-append t (before_each steps) ((steps, step_of call outcome) ∷ []) ∙ ap (λ b. list_any t (before_each steps) || b) (or_no (t (steps, step_of call outcome))))
     ∙ sym (or_assoc (is_judged opening.judged c) (list_any t (before_each steps)) (t (steps, step_of call outcome)))
@@ -278,10 +278,10 @@ judged_opening opening c = sym (or_no (is_judged opening.judged c))
 pub is_judged-was_judged : (bodies : List (List ℕ)) → NoCollision bodies → (h : History) → Knows (Contains bodies) h
     → (c : Candidate) → IsOf (Contains bodies) c → is_judged (archive h).judged c ≡ was_judged h.opening h.steps c
 is_judged-was_judged bodies apart h knows c hc =
-    by_steps (λ (xs : List Step). StepsHave (Contains bodies) xs → is_judged (archive (record h { steps = xs })).judged c ≡ was_judged h.opening xs c)
+    by_steps (λ (xs : List Turn). StepsHave (Contains bodies) xs → is_judged (archive (record h { steps = xs })).judged c ≡ was_judged h.opening xs c)
     (λ _. judged_opening h.opening c)
     (λ xs x sofar hk.
-    let front = all_front (λ (s : Step). AllByRecursion (Contains bodies) (bodies_of_call s.call)) xs (x ∷ []) hk in
+    let front = all_front (λ (s : Turn). AllByRecursion (Contains bodies) (bodies_of_call s.call)) xs (x ∷ []) hk in
     let before : History = record h { steps = xs } in
     ap (λ (a : PlainArchive). is_judged a.judged c) (archive-push before x.call x.outcome)
     ∙ judged_push bodies apart before (arrived_have (Contains bodies) h.opening xs knows.arrivals front) x.call x.outcome c hc (sofar front)

@@ -31,7 +31,7 @@ use Rattle.keep.specs.Book.{Book, Candidate, at_latest, body_for, counts, curren
 use Rattle.keep.specs.Keeping.{HasBodies, NoCollision}
 use Rattle.keep.specs.declared.arrival.Arrival.{Arrival}
 use Rattle.keep.proofs.Lists.{all_filter}
-use Rattle.history.specs.Histories.{Call, Delivery, QueueRun, Copying, Lookup, WaitingList, Cleaning, Removing, Promoting, VerdictList, Reply, Step, History, arrived, arrivals_after, bodies_of, bodies_of_call, calls_of, counting, due_after}
+use Rattle.history.specs.Histories.{Call, Delivery, QueueRun, Copying, Lookup, WaitingList, Cleaning, Removing, Promoting, VerdictList, Reply, Turn, History, arrived, arrivals_after, bodies_of, bodies_of_call, calls_of, counting, due_after}
 use Rattle.history.specs.Archives.{PlainArchive, Act, Whole, Copy, Remove, Promote, WholeUpload, BodyItem, acted, acts_of, archive, archive_of, all_acts, book_from, book_of, contents_of, copied, copied_all, items_copied, items_given, listed_body, pool_in, removed, shown_in, sources_in, suite_named, whole, whole_of, with_bodies, with_admitted}
 use Rattle.history.specs.Answers.{IsFaithful}
 use Rattle.history.specs.declared.fault.Fault.{Fault}
@@ -51,7 +51,7 @@ ItemsHave K items = AllByRecursion (λ e. ItemHas K e.1) items
 abbrev pub ArrivalsHave : (List ℕ → Type 0) → List Arrival → Type 0
 ArrivalsHave K arrivals = AllByRecursion (λ a. K a.body) arrivals
 
-abbrev pub StepsHave : (List ℕ → Type 0) → List Step → Type 0
+abbrev pub StepsHave : (List ℕ → Type 0) → List Turn → Type 0
 StepsHave K steps = AllByRecursion (λ s. AllByRecursion K (bodies_of_call s.call)) steps
 
 -- ---- finite maps
@@ -206,18 +206,18 @@ arrivals_after_have K seconds arrivals (Promoting from to sources moment) outcom
 arrivals_after_have K seconds arrivals VerdictList outcome h hb = h
 
 -- the bodies that have arrived are those of the opening and of the calls
-pub arrived_have : (K : List ℕ → Type 0) (opening : Book) (steps : List Step) → ArrivalsHave K opening.arrivals → StepsHave K steps → ArrivalsHave K (arrived opening steps)
+pub arrived_have : (K : List ℕ → Type 0) (opening : Book) (steps : List Turn) → ArrivalsHave K opening.arrivals → StepsHave K steps → ArrivalsHave K (arrived opening steps)
 unfolding arrived
 arrived_have K opening steps opened =
-    by_steps (λ (xs : List Step). StepsHave K xs → ArrivalsHave K (arrived opening xs)) (λ _. opened)
+    by_steps (λ (xs : List Turn). StepsHave K xs → ArrivalsHave K (arrived opening xs)) (λ _. opened)
     (λ xs x sofar h. subst (ArrivalsHave K) (sym (arrived-push opening xs x.call x.outcome))
     (arrivals_after_have K (span opening.config) (arrived opening xs) x.call x.outcome
-    (sofar (all_front (λ (s : Step). AllByRecursion K (bodies_of_call s.call)) xs (x ∷ []) h))
-    (all_back (λ (s : Step). AllByRecursion K (bodies_of_call s.call)) xs (x ∷ []) h).0))
+    (sofar (all_front (λ (s : Turn). AllByRecursion K (bodies_of_call s.call)) xs (x ∷ []) h))
+    (all_back (λ (s : Turn). AllByRecursion K (bodies_of_call s.call)) xs (x ∷ []) h).0))
     steps
 
 -- the bodies that count at a moment are known, too
-pub counting_have : (K : List ℕ → Type 0) (opening : Book) (steps : List Step) (moment : ℕ) → ArrivalsHave K (arrived opening steps) → ArrivalsHave K (counting opening steps moment)
+pub counting_have : (K : List ℕ → Type 0) (opening : Book) (steps : List Turn) (moment : ℕ) → ArrivalsHave K (arrived opening steps) → ArrivalsHave K (counting opening steps moment)
 unfolding counting
 counting_have K opening steps moment h = current_have K (span opening.config) moment (arrived opening steps) h
 
@@ -249,7 +249,7 @@ pub all_acted_have : (K : List ℕ → Type 0) → K [] → (config : ConfigValu
 all_acted_have K empty' config [] a ha h = ha
 all_acted_have K empty' config (act ∷ acts) a ha h = all_acted_have K empty' config acts (acted config a act) (acted_has K empty' config a act ha h.0) h.1
 
-acts_have : (K : List ℕ → Type 0) → K [] → (opening : Book) (steps : List Step) (call : Call) (outcome : Result Reply Fault) → ArrivalsHave K (arrived opening steps) → AllByRecursion (ActHas K) (acts_of opening steps call outcome)
+acts_have : (K : List ℕ → Type 0) → K [] → (opening : Book) (steps : List Turn) (call : Call) (outcome : Result Reply Fault) → ArrivalsHave K (arrived opening steps) → AllByRecursion (ActHas K) (acts_of opening steps call outcome)
 unfolding acts_of
 acts_have K empty' opening steps (QueueRun moment) (Ok reply) h =
     all_map (ActHas K) _ (due_after opening steps moment)
@@ -287,10 +287,10 @@ opened_has K empty' opening files =
 pub archive_has : (K : List ℕ → Type 0) (h : History) → Knows K h → ItemsHave K (archive h).admitted
 unfolding archive all_acts
 archive_has K h knows =
-    by_steps (λ (xs : List Step). StepsHave K xs → ItemsHave K (archive (record h { steps = xs })).admitted)
+    by_steps (λ (xs : List Turn). StepsHave K xs → ItemsHave K (archive (record h { steps = xs })).admitted)
     (λ _. opened_has K knows.nothing h.opening knows.files)
     (λ xs x sofar hk.
-    let front = all_front (λ (s : Step). AllByRecursion K (bodies_of_call s.call)) xs (x ∷ []) hk in
+    let front = all_front (λ (s : Turn). AllByRecursion K (bodies_of_call s.call)) xs (x ∷ []) hk in
     subst (λ (a : PlainArchive). ItemsHave K a.admitted) (sym (archive-push (record h { steps = xs }) x.call x.outcome))
     (all_acted_have K knows.nothing h.opening.config _ _ (sofar front) (acts_have K knows.nothing h.opening xs x.call x.outcome (arrived_have K h.opening xs knows.arrivals front))))
     h.steps knows.steps
@@ -307,7 +307,7 @@ counting_known K h knows moment = counting_have K h.opening h.steps moment (arri
 steps_known : (h : History) (calls : List Call) (K : List ℕ → Type 0) → ((body : List ℕ) → Contains (bodies_of (calls_of h.steps ++ calls)) body → K body) → StepsHave K h.steps
 steps_known h calls K each =
     let all = all_from_flat_map K bodies_of_call (calls_of h.steps ++ calls) (all_from_contained K _ each) in
-    all_unmap (λ (c : Call). AllByRecursion K (bodies_of_call c)) (λ (s : Step). s.call) h.steps
+    all_unmap (λ (c : Call). AllByRecursion K (bodies_of_call c)) (λ (s : Turn). s.call) h.steps
     (all_front (λ (c : Call). AllByRecursion K (bodies_of_call c)) (calls_of h.steps) calls all)
 
 if_some : {X : Type 0} (P : X → Type 0) (o : Option X) → ((x : X) → o ≡ Some x → P x) → IfSome o P

@@ -6,7 +6,7 @@ use Rattle.std.proofs.lemmas.Grind.{flat_map-append}
 use Rattle.std.proofs.lemmas.List.Elements.{Contains-append_left}
 use Rattle.keep.specs.Book.{Book}
 use Rattle.keep.specs.declared.keeper.Keeper.{Ghosts}
-use Rattle.history.specs.Histories.{Call, Delivery, Reply, Step, History, followed, bodies_of, bodies_of_call, calls_of}
+use Rattle.history.specs.Histories.{Call, Delivery, Reply, Turn, History, followed, bodies_of, bodies_of_call, calls_of}
 use Rattle.history.specs.Answers.{IsFaithful, IsKept, IsRun}
 use Rattle.history.specs.Archives.{book_of}
 use Rattle.history.specs.Steps.{Does, DoesAll, IsLeftAlong, IsServed, IsServedLast, LeavesCall, LeavesDelivery, LeavesRun, LeavesStep, Reads}
@@ -28,7 +28,7 @@ IsFaithful-front h calls more faithful =
 pub IsFaithful-rest : (h : History) (call : Call) (outcome : Result Reply Fault) (calls : List Call) → IsFaithful h (call ∷ calls) → IsFaithful (followed h call outcome) calls
 IsFaithful-rest h call outcome calls faithful =
     let regrouped : calls_of h.steps ++ call ∷ calls ≡ calls_of (followed h call outcome).steps ++ calls =
-    sym (ap (λ cs. cs ++ calls) (map-append (λ (s : Step). s.call) h.steps (record { call = call; outcome = outcome } ∷ [])) ∙ append_assoc (calls_of h.steps) (call ∷ []) calls) in
+    sym (ap (λ cs. cs ++ calls) (map-append (λ (s : Turn). s.call) h.steps (record { call = call; outcome = outcome } ∷ [])) ∙ append_assoc (calls_of h.steps) (call ∷ []) calls) in
     record {
       bodies = faithful.bodies;
       apart = faithful.apart;

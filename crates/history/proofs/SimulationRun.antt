@@ -80,7 +80,7 @@ candidate_read a c h = named (is_changes_name a.name) h
     named true e = read (result_ok (changes_in a.body)) refl e
     named false e = cc
 
-pub due_after-due : (opening : Book) (steps : List histories.Step) (moment : ℕ) → AreDue (counting opening steps moment) (due_after opening steps moment)
+pub due_after-due : (opening : Book) (steps : List histories.Turn) (moment : ℕ) → AreDue (counting opening steps moment) (due_after opening steps moment)
 unfolding waiting_after
 due_after-due opening steps moment c at =
     let arrivals = counting opening steps moment in
@@ -94,7 +94,7 @@ abbrev pub AreAmong : List Arrival → List Arrival → Type 0
 AreAmong now arrivals = (d : Arrival) → Contains now d → Contains arrivals d
 
 -- what counts at a moment has arrived
-counting_among : (opening : Book) (steps : List histories.Step) (moment : ℕ) → AreAmong (counting opening steps moment) (arrived opening steps)
+counting_among : (opening : Book) (steps : List histories.Turn) (moment : ℕ) → AreAmong (counting opening steps moment) (arrived opening steps)
 unfolding counting
 counting_among opening steps moment = current-part (span opening.config) moment (arrived opening steps)
 

@@ -6,25 +6,25 @@ use Rattle.std.proofs.lemmas.Grind.{fold-append, flat_map-append}
 use Rattle.keep.specs.Book.{Book, at_moment, span, with_delivery}
 use Rattle.keep.specs.declared.arrival.Arrival.{Arrival}
 use Rattle.history.specs.Before.{before_each, before_each-push}
-use Rattle.history.specs.Histories.{Call, Delivery, QueueRun, Copying, Lookup, WaitingList, Cleaning, Removing, Promoting, VerdictList, Reply, Step, History, arrived, arrivals_after, followed}
+use Rattle.history.specs.Histories.{Call, Delivery, QueueRun, Copying, Lookup, WaitingList, Cleaning, Removing, Promoting, VerdictList, Reply, Turn, History, arrived, arrivals_after, followed}
 use Rattle.history.specs.Archives.{acted, acts_of, all_acts, archive, archive_of, book_from, book_of}
 use Rattle.history.specs.declared.fault.Fault.{Fault}
 
 -- a call and its outcome as a step
-abbrev pub step_of : Call → Result Reply Fault → Step
+abbrev pub step_of : Call → Result Reply Fault → Turn
 step_of call outcome = record { call = call; outcome = outcome }
 
-pub arrived-push : (opening : Book) (steps : List Step) (call : Call) (outcome : Result Reply Fault)
+pub arrived-push : (opening : Book) (steps : List Turn) (call : Call) (outcome : Result Reply Fault)
     → arrived opening (steps ++ step_of call outcome ∷ []) ≡ arrivals_after (span opening.config) (arrived opening steps) call outcome
 unfolding arrived
 arrived-push opening steps call outcome =
-    fold-append (λ (now : List Arrival) (s : Step). arrivals_after (span opening.config) now s.call s.outcome) opening.arrivals steps (step_of call outcome ∷ [])
+    fold-append (λ (now : List Arrival) (s : Turn). arrivals_after (span opening.config) now s.call s.outcome) opening.arrivals steps (step_of call outcome ∷ [])
 
-pub all_acts-push : (opening : Book) (steps : List Step) (call : Call) (outcome : Result Reply Fault)
+pub all_acts-push : (opening : Book) (steps : List Turn) (call : Call) (outcome : Result Reply Fault)
     → all_acts opening (steps ++ step_of call outcome ∷ []) ≡ all_acts opening steps ++ acts_of opening steps call outcome
 unfolding all_acts
 all_acts-push opening steps call outcome =
-    let f = λ (p : List Step × Step). acts_of opening p.0 p.1.call p.1.outcome in
+    let f = λ (p : List Turn × Turn). acts_of opening p.0 p.1.call p.1.outcome in
     ap (flat_map f) (before_each-push steps (step_of call outcome)) ∙ flat_map-append f (before_each steps) ((steps, step_of call outcome) ∷ [])
     ∙ ap (λ acts. flat_map f (before_each steps) ++ acts) (append-nil (acts_of opening steps call outcome))
 

@@ -24,7 +24,7 @@ use Rattle.keep.specs.Book.{Book, Candidate, body_for, upload_of}
 use Rattle.keep.specs.declared.arrival.Arrival.{Arrival}
 use Rattle.keep.specs.declared.change.Judgement.{Judgement}
 use Rattle.history.specs.Before.{before_each}
-use Rattle.history.specs.Histories.{Call, QueueRun, Copying, Removing, Promoting, Reply, Step, History, arrived, counting, due_after}
+use Rattle.history.specs.Histories.{Call, QueueRun, Copying, Removing, Promoting, Reply, Turn, History, arrived, counting, due_after}
 use Rattle.history.specs.declared.fault.Fault.{Fault}
 
 -- ---- what the plain archive has
@@ -181,7 +181,7 @@ whole_of arrivals c = record { upload = upload_of arrivals c; bodies = map (body
 -- What a call after those before it does to the plain archive. A run that was done hands over each upload that is due at its
 -- moment. A copy that was done copies, a removal that was done removes, and a promotion that was done copies each of its
 -- source packages in turn. No other call does anything, not even a cleaning.
-unfoldable pub acts_of : Book → List Step → Call → Result Reply Fault → List Act
+unfoldable pub acts_of : Book → List Turn → Call → Result Reply Fault → List Act
 acts_of opening before (QueueRun moment) (Ok reply) =
     map (λ c. Whole (whole_of (counting opening before moment) c) moment) (due_after opening before moment)
 acts_of opening before (Copying from to source moment) (Ok reply) = flat_map
@@ -194,7 +194,7 @@ acts_of opening before (Promoting from to sources moment) (Ok reply) = flat_map
     (option_to_list (suite_named opening.config from))
 acts_of opening before call outcome = []
 
-unfoldable pub all_acts : Book → List Step → List Act
+unfoldable pub all_acts : Book → List Turn → List Act
 all_acts opening steps = flat_map (λ p. acts_of opening p.0 p.1.call p.1.outcome) (before_each steps)
 
 -- an item with the bodies that a book has for its files

@@ -7,7 +7,7 @@ ghost use Rattle.history.specs.Configuring.{IsLeftConfigured, LeavesConfigured, 
 ghost use Rattle.rules.specs.Configuration.{ClaimApart};
 ghost use Rattle.history.specs.Archives.{archive, book_of, sources_in, Stands};
 ghost use Rattle.history.specs.Copies.{AreSuites};
-ghost use Rattle.history.specs.Histories.{Call, Cleaning, Copies, Count, Delivery, History, Promoting, Reply, Step, arrived, counting, followed, opened_with};
+ghost use Rattle.history.specs.Histories.{Call, Cleaning, Copies, Count, Delivery, History, Promoting, Reply, Turn, arrived, counting, followed, opened_with};
 ghost use Rattle.history.specs.Promotions.{answered_copies, with_copies};
 ghost use Rattle.history.specs.declared.fault.Fault.{Fault};
 ghost use Rattle.rules.specs.Values.{ConfigValue};
@@ -53,7 +53,7 @@ pub fn a_configured_book_opens_its_history()
 /// If the configuration has no number of days, all that has arrived counts at each moment, and a cleaning takes nothing and leaves the
 /// book as it is. The promise is then that of an archive which keeps arrivals for good.
 pub fn for_good()
-    ensures counts { (opening : Book) (steps : List Step) (moment : ℕ) → opening.config.keep_days ≡ None
+    ensures counts { (opening : Book) (steps : List Turn) (moment : ℕ) → opening.config.keep_days ≡ None
         → counting opening steps moment ≡ arrived opening steps }
     ensures nothing { (h : History) (moment : ℕ) → h.opening.config.keep_days ≡ None → moment ≤ latest → answer h (Cleaning moment) ≡ Ok (Count 0) }
     ensures same { (h : History) (moment : ℕ) (outcome : Result Reply Fault) → h.opening.config.keep_days ≡ None

@@ -22,5 +22,5 @@ pub use laws::{
 };
 pub use lines::report_lines;
 pub use promotion::{Copied, copied_steps, copy_lines, groups_of, sources_of};
-pub use removal::{place_of, removal_plan};
+pub use removal::{removal_plan, suite_position};
 pub use report::{verdict_lines, waiting_lines};

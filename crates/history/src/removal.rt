@@ -11,7 +11,7 @@ use std::alloc::Global;
 use suites::{Item, Plan, ShelfKey, Shelves, plan_remove};
 
 /// The position of a suite, by its codename. It is refused if there is no such suite.
-pub fn place_of(config: &Config, codename: &str) -> Result<usize, Fault>
+pub fn suite_position(config: &Config, codename: &str) -> Result<usize, Fault>
     ensures suite { IfOk result (λ place. suite_named config.now codename.now ≡ Some place) }
     ensures refused { IfErr result (λ e. suite_fault (suite_named config.now codename.now) ≡ Some e) }
 {

@@ -23,7 +23,7 @@ use Rattle.texts.proofs.Found.{found_front, none_front, text_at-found, text_at-o
 use Rattle.renewing.specs.Renewal.{folder_of, index_after, path_in, renewed_at, renewed_folder, renewed_from, renewed_index, renewed_suite, some_changes_index, text_after}
 use Rattle.texts.specs.Places.{place_path, place_text, places_in, place_entry}
 use Rattle.renewing.specs.declared.renewal.Folder.{Folder}
-use Rattle.texts.specs.declared.places.Place.{Place}
+use Rattle.texts.specs.declared.places.IndexPlace.{IndexPlace}
 use Rattle.texts.proofs.Apart.{PathsDiffer, found_of_apart, none_of_others}
 use Rattle.texts.proofs.Pairs.{into_flat, pairs_across, pairs_append, pairs_map, pairs_none, same_map_over}
 use Rattle.texts.proofs.Paths.{AreNamed, IsNamed, config_named, folders, index_or_release, places_apart, named_rest}
@@ -70,7 +70,7 @@ listed_right xs ys path h = (h.0, Contains-append_right xs ys h.0 h.1, h.2)
 -- ---- the texts of one suite
 
 module _ (old : List ℕ → Option (List ℕ)) (shown shelves : ShelvesValue) (steps : List Step)
-    (past : (suite : ℕ) (place : Place) → some_changes_index suite place steps ≡ false → place_text shelves suite place ≡ place_text shown suite place) where
+    (past : (suite : ℕ) (place : IndexPlace) → some_changes_index suite place steps ≡ false → place_text shelves suite place ≡ place_text shown suite place) where
   -- the old texts are these
   abbrev Knows : ℕ → Suite → ℕ → Type 0
   Knows suite s date = (e : PathText) → Contains (entries_of shown suite s date) e → old e.0 ≡ Some e.1
@@ -79,16 +79,16 @@ module _ (old : List ℕ → Option (List ℕ)) (shown shelves : ShelvesValue) (
     abbrev f : Folder
     f = folder_of suite s
 
-    abbrev places : List Place
+    abbrev places : List IndexPlace
     places = places_in s.components s.architectures
 
-    knows_place : (p : Place) → Contains places p → old (path_in f (place_path p)) ≡ Some (place_text shown suite p)
+    knows_place : (p : IndexPlace) → Contains places p → old (path_in f (place_path p)) ≡ Some (place_text shown suite p)
     knows_place p at = knows (placed shown f p) (there (released shown suite s date) (placed shown f p) (map (placed shown f) places) (contains_map (placed shown f) p places at))
 
     knows_release : old (path_in f (codes "Release")) ≡ Some (release_text s date (indices_of s shown suite))
     knows_release = knows (released shown suite s date) (here (released shown suite s date) (map (placed shown f) places))
 
-    after_is : (p : Place) → Contains places p → text_after old shelves steps f p ≡ place_text shelves suite p
+    after_is : (p : IndexPlace) → Contains places p → text_after old shelves steps f p ≡ place_text shelves suite p
     unfolding text_after
     after_is p at = by_case (some_changes_index suite p steps) refl
       where
@@ -119,7 +119,7 @@ module _ (old : List ℕ → Option (List ℕ)) (shown shelves : ShelvesValue) (
     ]
 
     -- each of the renewed texts of an index is among those of the suite
-    index_covers : (moment : ℕ) (p : Place) → Contains places p → Listed (flat_map (renewed_index old shelves steps f) places) (path_in f (place_path p)) ⊎ (place_text shown suite p ≡ place_text shelves suite p)
+    index_covers : (moment : ℕ) (p : IndexPlace) → Contains places p → Listed (flat_map (renewed_index old shelves steps f) places) (path_in f (place_path p)) ⊎ (place_text shown suite p ≡ place_text shelves suite p)
     unfolding renewed_index
     index_covers moment p at = by_case (some_changes_index suite p steps) refl
         (λ t h. into_flat (renewed_index old shelves steps f) places p t at h)
@@ -161,7 +161,7 @@ module _ (old : List ℕ → Option (List ℕ)) (shown shelves : ShelvesValue) (
     -- a suite that no step touches has the same texts
     untouched : some_touches suite steps ≡ false → entries_of shown suite s date ≡ entries_of shelves suite s date
     untouched h =
-        let same : (p : Place) → place_text shown suite p ≡ place_text shelves suite p = λ p. sym (past suite p (untouched_index suite p steps h)) in
+        let same : (p : IndexPlace) → place_text shown suite p ≡ place_text shelves suite p = λ p. sym (past suite p (untouched_index suite p steps h)) in
         let indices : indices_of s shown suite ≡ indices_of s shelves suite =
         indices_by_place shown suite s ∙ same_map_over (λ p. index_of (place_entry shown suite p)) (λ p. index_of (place_entry shelves suite p)) places (λ p at. ap (λ (t : List ℕ). index_of (place_path p, t)) (same p)) ∙ sym (indices_by_place shelves suite s) in
         ap (λ is. (path_in f (codes "Release"), release_text s date is) ∷ map (placed shown f) places) indices
@@ -311,7 +311,7 @@ no_texts shelves suite [] e at = no_member e at
 no_texts shelves suite (s ∷ ss) e at = no_member e at
 
 module _ (old : List ℕ → Option (List ℕ)) (shown shelves : ShelvesValue) (steps : List Step)
-    (past : (suite : ℕ) (place : Place) → some_changes_index suite place steps ≡ false → place_text shelves suite place ≡ place_text shown suite place) where
+    (past : (suite : ℕ) (place : IndexPlace) → some_changes_index suite place steps ≡ false → place_text shelves suite place ≡ place_text shown suite place) where
   knows_all : (suite : ℕ) (suites : List Suite) (dates : List ℕ) → ((e : PathText) → Contains (texts_from shown suite (zip suites dates)) e → old e.0 ≡ Some e.1)
       → ((s : Suite) → Contains (drop (length dates) suites) s → old (codes "dists/" ++ s.codename ++ codes "/" ++ codes "Release") ≡ None) → KnowsAll old shown shelves steps past suite suites dates
   unfolding texts_from
@@ -348,7 +348,7 @@ module _ (book : Book) (steps : List Step) (moment : ℕ) (shelves : ShelvesValu
       ∙ ap (λ (m : ShelvesValue). text_at path (texts_from m 0 (zip suites (dates_past moment book.dates steps)))) (sym after)
       ∙ ap (λ (ds : List ℕ). text_at path (texts_from shelves 0 (zip suites ds))) (dates_past-dated moment steps book.dates)
 
-  past : (suite : ℕ) (place : Place) → some_changes_index suite place steps ≡ false → place_text shelves suite place ≡ place_text book.shown suite place
+  past : (suite : ℕ) (place : IndexPlace) → some_changes_index suite place steps ≡ false → place_text shelves suite place ≡ place_text book.shown suite place
   past suite place h = ap (λ (m : ShelvesValue). place_text m suite place) after ∙ same_past suite place book.shown steps sound h
 
   named : AreNamed suites

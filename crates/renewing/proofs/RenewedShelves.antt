@@ -29,7 +29,7 @@ use Rattle.indices.specs.Listed.{is_in_packages, is_in_sources}
 use Rattle.texts.specs.Stanzas.{package_stanza, packages_text, source_stanza, sources_text}
 use Rattle.renewing.specs.Renewal.{changes_index, is_listed, some_changes_index}
 use Rattle.texts.specs.Places.{place_text}
-use Rattle.texts.specs.declared.places.Place.{Place}
+use Rattle.texts.specs.declared.places.IndexPlace.{IndexPlace}
 
 -- ---- the entries of a map that pass
 
@@ -110,13 +110,13 @@ module _ {K X : Type 0} {R : K → K → Ordering} (total : IsTotalOrder R) (sam
 -- ---- indices
 
 -- the items that an index lists, and its text, by whether it is an index of sources
-abbrev lists_by : Bool → ℕ → Place → ShelfKey × Item → Bool
+abbrev lists_by : Bool → ℕ → IndexPlace → ShelfKey × Item → Bool
 lists_by b suite place e = if b then is_in_sources suite place.component e else is_in_packages suite place.component place.architecture e
 
-abbrev text_by : Bool → ShelvesValue → ℕ → Place → List ℕ
+abbrev text_by : Bool → ShelvesValue → ℕ → IndexPlace → List ℕ
 text_by b shelves suite place = if b then sources_text shelves suite place.component else packages_text shelves suite place.component place.architecture
 
-same_by : (b : Bool) (suite : ℕ) (place : Place) (old new : ShelvesValue) (put dropped : List (ShelfKey × Item)) → IsChange old new put dropped
+same_by : (b : Bool) (suite : ℕ) (place : IndexPlace) (old new : ShelvesValue) (put dropped : List (ShelfKey × Item)) → IsChange old new put dropped
     → list_any (lists_by b suite place) put ≡ false → list_any (lists_by b suite place) dropped ≡ false → text_by b new suite place ≡ text_by b old suite place
 unfolding sources_text packages_text
 same_by true suite place old new put dropped change p d =
@@ -124,7 +124,7 @@ same_by true suite place old new put dropped change p d =
 same_by false suite place old new put dropped change p d =
     ap (flat_map (λ (a : ShelfKey × Item). package_stanza a.1)) (unchanged key_order_total key_order-IsAntisymmetric (is_in_packages suite place.component place.architecture) old new put dropped change p d)
 
-same_text : (suite : ℕ) (place : Place) (old new : ShelvesValue) (plan : Plan) → IsChange old new plan.put plan.dropped → changes_index suite place plan ≡ false
+same_text : (suite : ℕ) (place : IndexPlace) (old new : ShelvesValue) (plan : Plan) → IsChange old new plan.put plan.dropped → changes_index suite place plan ≡ false
     → place_text new suite place ≡ place_text old suite place
 unfolding changes_index is_listed listed_text
 same_text suite place old new plan change h =
@@ -132,7 +132,7 @@ same_text suite place old new plan change h =
     same_by (is_source place.architecture) suite place old new plan.put plan.dropped change parts.0 parts.1
 
 -- THE TEXT of an index that no step changes
-pub same_past : (suite : ℕ) (place : Place) (shown : ShelvesValue) (steps : List Step) → AreSteps shown steps → some_changes_index suite place steps ≡ false
+pub same_past : (suite : ℕ) (place : IndexPlace) (shown : ShelvesValue) (steps : List Step) → AreSteps shown steps → some_changes_index suite place steps ≡ false
     → place_text (shown_past shown steps) suite place ≡ place_text shown suite place
 same_past suite place shown [] sound h = refl
 same_past suite place shown (step ∷ steps) sound h =
@@ -145,23 +145,23 @@ same_past suite place shown (step ∷ steps) sound h =
 
 -- ---- suites
 
-not_listed : (b : Bool) (suite : ℕ) (place : Place) (e : ShelfKey × Item) → nat_eq e.0.suite suite ≡ false → lists_by b suite place e ≡ false
+not_listed : (b : Bool) (suite : ℕ) (place : IndexPlace) (e : ShelfKey × Item) → nat_eq e.0.suite suite ≡ false → lists_by b suite place e ≡ false
 unfolding is_in_sources is_in_packages
 not_listed true suite place e h = rw h refl
 not_listed false suite place e h = rw h refl
 
-elsewhere : (suite : ℕ) (place : Place) (es : List (ShelfKey × Item)) → list_any (λ (e : ShelfKey × Item). nat_eq e.0.suite suite) es ≡ false → list_any (is_listed suite place) es ≡ false
+elsewhere : (suite : ℕ) (place : IndexPlace) (es : List (ShelfKey × Item)) → list_any (λ (e : ShelfKey × Item). nat_eq e.0.suite suite) es ≡ false → list_any (is_listed suite place) es ≡ false
 unfolding is_listed
 elsewhere suite place es none = any_none (is_listed suite place) es (λ e listed. not_listed (is_source place.architecture) suite place e (any_false (λ (e : ShelfKey × Item). nat_eq e.0.suite suite) es e none listed))
 
-one_elsewhere : (suite : ℕ) (place : Place) (plan : Plan) → touches suite plan ≡ false → changes_index suite place plan ≡ false
+one_elsewhere : (suite : ℕ) (place : IndexPlace) (plan : Plan) → touches suite plan ≡ false → changes_index suite place plan ≡ false
 unfolding touches changes_index
 one_elsewhere suite place plan h =
     let parts = neither (list_any (λ (e : ShelfKey × Item). nat_eq e.0.suite suite) plan.put) (list_any (λ (e : ShelfKey × Item). nat_eq e.0.suite suite) plan.dropped) h in
     rw (elsewhere suite place plan.put parts.0, elsewhere suite place plan.dropped parts.1) refl
 
 -- steps that touch no item of a suite change none of its indices
-pub untouched_index : (suite : ℕ) (place : Place) (steps : List Step) → some_touches suite steps ≡ false → some_changes_index suite place steps ≡ false
+pub untouched_index : (suite : ℕ) (place : IndexPlace) (steps : List Step) → some_touches suite steps ≡ false → some_changes_index suite place steps ≡ false
 untouched_index suite place [] h = refl
 untouched_index suite place (step ∷ steps) h =
     let parts = neither (touches suite step.plan) (some_touches suite steps) h in

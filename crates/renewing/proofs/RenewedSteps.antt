@@ -19,13 +19,13 @@ use Rattle.texts.specs.declared.index.Index.{Index}
 use Rattle.renewing.specs.Renewal.{folder_of, index_after, path_in, print_kept, renewed_folder, renewed_from, renewed_index, renewed_suite, some_changes_index, text_after}
 use Rattle.texts.specs.Places.{place_path, place_text}
 use Rattle.renewing.specs.declared.renewal.Folder.{Folder}
-use Rattle.texts.specs.declared.places.Place.{Place}
+use Rattle.texts.specs.declared.places.IndexPlace.{IndexPlace}
 
 abbrev index : List ℕ → Print → Index
 index path print = record { path = path; print = print }
 
 -- the index of a place that no step changes
-pub kept_index : (old : List ℕ → Option (List ℕ)) (shelves : ShelvesValue) (steps : List Step) (folder : Folder) (place : Place) (path whole : List ℕ) (kept : Option (List ℕ)) (own : Print)
+pub kept_index : (old : List ℕ → Option (List ℕ)) (shelves : ShelvesValue) (steps : List Step) (folder : Folder) (place : IndexPlace) (path whole : List ℕ) (kept : Option (List ℕ)) (own : Print)
     → path ≡ place_path place → whole ≡ path_in folder path → kept ≡ old whole → own ≡ print_kept kept → some_changes_index folder.suite place steps ≡ false
     → record { path = path; print = own } ≡ index_after old shelves steps folder place
 unfolding text_after print_kept
@@ -36,7 +36,7 @@ kept_index old shelves steps folder place path whole kept own path_is whole_is k
     ∙ ap (λ (b : Bool). index (place_path place) (print (if b then place_text shelves folder.suite place else unwrap_or (old (path_in folder (place_path place))) []))) (sym unchanged)
 
 -- its text is not among those that differ
-pub kept_texts : (old : List ℕ → Option (List ℕ)) (shelves : ShelvesValue) (steps : List Step) (folder : Folder) (place : Place) → some_changes_index folder.suite place steps ≡ false
+pub kept_texts : (old : List ℕ → Option (List ℕ)) (shelves : ShelvesValue) (steps : List Step) (folder : Folder) (place : IndexPlace) → some_changes_index folder.suite place steps ≡ false
     → renewed_index old shelves steps folder place ≡ []
 unfolding renewed_index
 kept_texts old shelves steps folder place unchanged = rw unchanged refl

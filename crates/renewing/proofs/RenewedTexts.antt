@@ -22,13 +22,13 @@ use Rattle.texts.specs.declared.index.Index.{Index}
 use Rattle.renewing.specs.Renewal.{folder_of, index_after, path_in, renewed_at, renewed_folder, renewed_from, renewed_index, renewed_suite, some_changes_index, text_to_keep}
 use Rattle.texts.specs.Places.{place_path, place_text, places_in, place_entry}
 use Rattle.renewing.specs.declared.renewal.Folder.{Folder}
-use Rattle.texts.specs.declared.places.Place.{Place}
+use Rattle.texts.specs.declared.places.IndexPlace.{IndexPlace}
 use Rattle.texts.proofs.Pairs.{in_flat, pairs_append, pairs_flat, pairs_none, pairs_one}
 use Rattle.texts.proofs.Paths.{AreNamed, NoSlash, folders, index_or_release, places_apart, named_rest}
 
 -- ---- the texts of a suite, place by place
 
-abbrev pub placed : ShelvesValue → Folder → Place → PathText
+abbrev pub placed : ShelvesValue → Folder → IndexPlace → PathText
 placed shelves f p = (path_in f (place_path p), place_text shelves f.suite p)
 
 abbrev pub released : ShelvesValue → ℕ → Suite → ℕ → PathText
@@ -101,7 +101,7 @@ one_apart kept path text = by_case (is_kept kept text)
 
 module _ (old : List ℕ → Option (List ℕ)) (shelves : ShelvesValue) (steps : List Step) where
   -- a text of a place, or Release
-  abbrev pub OfPlace : Folder → IndexText → Place → Type 0
+  abbrev pub OfPlace : Folder → IndexText → IndexPlace → Type 0
   OfPlace f t p = Contains f.places p × (t.path ≡ path_in f (place_path p)) × (t.text ≡ place_text shelves f.suite p) × (is_kept (old t.path) t.text ≡ false)
 
   abbrev pub OfRelease : Folder → List ℕ → IndexText → Type 0
@@ -110,7 +110,7 @@ module _ (old : List ℕ → Option (List ℕ)) (shelves : ShelvesValue) (steps 
   still : (t : IndexText) (path text : List ℕ) → t.path ≡ path → t.text ≡ text → is_kept (old path) text ≡ false → is_kept (old t.path) t.text ≡ false
   still t path text p q h = ap (λ (x : List ℕ). is_kept (old x) t.text) p ∙ ap (is_kept (old path)) q ∙ h
 
-  of_index : (f : Folder) (p : Place) (t : IndexText) → Contains f.places p → Contains (renewed_index old shelves steps f p) t → OfPlace f t p
+  of_index : (f : Folder) (p : IndexPlace) (t : IndexText) → Contains f.places p → Contains (renewed_index old shelves steps f p) t → OfPlace f t p
   unfolding renewed_index
   of_index f p t at h = by_case (some_changes_index f.suite p steps) h
     where
@@ -121,12 +121,12 @@ module _ (old : List ℕ → Option (List ℕ)) (shelves : ShelvesValue) (steps 
       by_case false h = no_member t h
 
   pub of_folder : (f : Folder) (release : List Index → List ℕ) (t : IndexText) → Contains (renewed_folder old shelves steps f release) t
-      → ((p : Place) × OfPlace f t p) ⊎ OfRelease f (release (map (index_after old shelves steps f) f.places)) t
+      → ((p : IndexPlace) × OfPlace f t p) ⊎ OfRelease f (release (map (index_after old shelves steps f) f.places)) t
   unfolding renewed_folder
   of_folder f release t h = by_case (is_some (old (path_in f (codes "Release")))) h
     where
       by_case : (b : Bool) → Contains (if b then flat_map (renewed_index old shelves steps f) f.places ++ renewed_at (old (path_in f (codes "Release"))) (path_in f (codes "Release")) (release (map (index_after old shelves steps f) f.places)) else []) t
-          → ((p : Place) × OfPlace f t p) ⊎ OfRelease f (release (map (index_after old shelves steps f) f.places)) t
+          → ((p : IndexPlace) × OfPlace f t p) ⊎ OfRelease f (release (map (index_after old shelves steps f) f.places)) t
       by_case false h = no_member t h
       by_case true h = elim (Contains-append_cases (flat_map (renewed_index old shelves steps f) f.places) _ t h) [
         | inl listed ↦ let found = in_flat (renewed_index old shelves steps f) f.places t listed in inl (found.0, of_index f found.0 t found.1 found.2)
@@ -144,7 +144,7 @@ module _ (old : List ℕ → Option (List ℕ)) (shelves : ShelvesValue) (steps 
 
   -- ---- the paths of what is renewed differ
 
-  index_apart : (f : Folder) (p : Place) → AllPairs TextsDiffer (renewed_index old shelves steps f p)
+  index_apart : (f : Folder) (p : IndexPlace) → AllPairs TextsDiffer (renewed_index old shelves steps f p)
   unfolding renewed_index
   index_apart f p = by_case (some_changes_index f.suite p steps)
     where

@@ -18,22 +18,22 @@ use Rattle.indices.specs.Listed.{is_in_packages, is_in_sources}
 use Rattle.texts.specs.Indices as indices
 use Rattle.texts.specs.Places.{place_path, place_text, places_in}
 use Rattle.texts.specs.declared.index.Index.{Index}
-use Rattle.texts.specs.declared.places.Place.{Place}
+use Rattle.texts.specs.declared.places.IndexPlace.{IndexPlace}
 use Rattle.renewing.specs.declared.renewal.Folder.{Folder}
 
 -- ---- which indices a step changes
 
 -- the index of a component and an architecture of the suite at a position lists the item
-unfoldable pub is_listed : ℕ → Place → ShelfKey × Item → Bool
+unfoldable pub is_listed : ℕ → IndexPlace → ShelfKey × Item → Bool
 is_listed suite place e =
     if is_source place.architecture then is_in_sources suite place.component e
     else is_in_packages suite place.component place.architecture e
 
 -- the plan puts or drops an item that the index lists
-unfoldable pub changes_index : ℕ → Place → Plan → Bool
+unfoldable pub changes_index : ℕ → IndexPlace → Plan → Bool
 changes_index suite place plan = list_any (is_listed suite place) plan.put || list_any (is_listed suite place) plan.dropped
 
-abbrev pub some_changes_index : ℕ → Place → List Step → Bool
+abbrev pub some_changes_index : ℕ → IndexPlace → List Step → Bool
 some_changes_index suite place steps = list_any (λ step. changes_index suite place step.plan) steps
 
 -- ---- the texts that then differ, which are these by their paths
@@ -64,16 +64,16 @@ index_with path own = record { path = path; print = own }
 
 module _ (old : List ℕ → Option (List ℕ)) (shelves : ShelvesValue) (steps : List Step) (folder : Folder) where
   -- the text of an index: rendered if a step changes it, else as it was
-  unfoldable pub text_after : Place → List ℕ
+  unfoldable pub text_after : IndexPlace → List ℕ
   text_after place =
       if some_changes_index folder.suite place steps then place_text shelves folder.suite place
       else unwrap_or (old (path_in folder (place_path place))) []
 
-  abbrev pub index_after : Place → Index
+  abbrev pub index_after : IndexPlace → Index
   index_after place = index_of (place_path place, text_after place)
 
   -- the text of an index that a step changes, if it differs
-  unfoldable pub renewed_index : Place → List IndexText
+  unfoldable pub renewed_index : IndexPlace → List IndexText
   renewed_index place =
       if some_changes_index folder.suite place steps
       then renewed_at (old (path_in folder (place_path place))) (path_in folder (place_path place)) (place_text shelves folder.suite place)

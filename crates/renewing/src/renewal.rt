@@ -23,14 +23,14 @@ use rules::Suite;
 use std::alloc::{AllocError, Global};
 use suites::{Item, Plan, ShelfKey, Shelves};
 use sums::{Print, print_of};
-use texts::{Index, Place, index_path, listed_text, path_in, places_of, release};
+use texts::{Index, IndexPlace, index_path, listed_text, path_in, places_of, release};
 
 /// A suite as its paths name it: its position in the configuration, its codename, and the places of its indices.
 #[derive(Drop)]
 pub struct Folder {
     pub suite: usize,
     pub codename: Text,
-    pub places: Listed<Place>,
+    pub places: Listed<IndexPlace>,
 }
 
 /// The folder of the suite at a position.
@@ -57,7 +57,7 @@ fn path_of(alloc: Global, folder: &Folder, path: &str) -> Result<String, AllocEr
 
 /// Whether the index of a suite's place lists the item, which stands on the shelf.
 #[tactic(auto, unfolding(crate::specs::Renewal::is_listed))]
-fn is_listed(key: &ShelfKey, item: &Item, suite: usize, place: &Place) -> bool
+fn is_listed(key: &ShelfKey, item: &Item, suite: usize, place: &IndexPlace) -> bool
     ensures { result ≡ is_listed suite place.now (key.now, item.now) }
 {
     let component = place.component.as_str();
@@ -70,7 +70,7 @@ fn is_listed(key: &ShelfKey, item: &Item, suite: usize, place: &Place) -> bool
 }
 
 /// Whether the index of a suite's place lists one of the items.
-fn lists_some(entries: &[(ShelfKey, Item)], suite: usize, place: &Place) -> bool
+fn lists_some(entries: &[(ShelfKey, Item)], suite: usize, place: &IndexPlace) -> bool
     ensures { result ≡ list_any (is_listed suite place.now) entries.now }
 {
     for entry in entries {
@@ -83,7 +83,7 @@ fn lists_some(entries: &[(ShelfKey, Item)], suite: usize, place: &Place) -> bool
 
 /// Whether a plan puts or drops an item that the index lists.
 #[tactic(auto, unfolding(crate::specs::Renewal::changes_index))]
-fn changes_index(plan: &Plan, suite: usize, place: &Place) -> bool
+fn changes_index(plan: &Plan, suite: usize, place: &IndexPlace) -> bool
     ensures { result ≡ changes_index suite place.now plan.now }
 {
     let puts = lists_some(plan.put.as_slice(), suite, place);
@@ -92,7 +92,7 @@ fn changes_index(plan: &Plan, suite: usize, place: &Place) -> bool
 }
 
 /// Whether a step puts or drops an item that the index lists.
-fn some_changes_index(steps: &[Step], suite: usize, place: &Place) -> bool
+fn some_changes_index(steps: &[Step], suite: usize, place: &IndexPlace) -> bool
     ensures { result ≡ some_changes_index suite place.now steps.now }
 {
     for step in steps {
@@ -169,7 +169,7 @@ fn renew_index<K: Keeper>(
     printed: &mut Vec<PrintedText>,
     amendment: &Amendment<'_>,
     folder: &Folder,
-    place: &Place,
+    place: &IndexPlace,
     texts: &mut Vec<IndexText>,
 ) -> Result<Index, KeepFault>
     ensures reads { Reads K.is_clean K.is_open K.faults K.book K.may_leave keeper.old keeper.new }

@@ -17,7 +17,7 @@ use tables::dates::insert_date;
 use tables::meta::{VERSION, insert_meta};
 use tables::schema::{create_indexes, create_tables};
 use tables::texts::insert_text;
-use texts::{Place, index_path, indices_of, listed_text, path_in, places_of, release};
+use texts::{IndexPlace, index_path, indices_of, listed_text, path_in, places_of, release};
 
 /// The Release of the suite at the position, whose shown items last changed at the moment.
 fn release_of(
@@ -61,7 +61,7 @@ fn insert_index<S: Alter>(
     shelves: &Shelves,
     position: usize,
     suite: &Suite,
-    place: &Place,
+    place: &IndexPlace,
 ) -> Result<(), Error>
     ensures same_reference { IsSame tx.old tx.new }
     ensures ok { Writes S.Store tx.old tx.new result (with_path_text (from_root suite.now (place_entry shelves.now position place.now))) }
@@ -82,7 +82,7 @@ fn insert_placed<S: Alter>(
     shelves: &Shelves,
     position: usize,
     suite: &Suite,
-    places: &[Place],
+    places: &[IndexPlace],
 ) -> Result<(), Error>
     ensures same_reference { IsSame tx.old tx.new }
     ensures ok { Inside S.Store tx.old tx.new (λ old new. OnOk result (Continues old new (with_texts (placed_texts shelves.now position suite.now places.now)))) }

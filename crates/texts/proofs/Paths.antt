@@ -24,7 +24,7 @@ use Rattle.sums.proofs.Booleans.{both, denied, neither, passed}
 use Rattle.sums.proofs.Members.{all_from, all_true, any_false, from_map, pairs_tail, there}
 use Rattle.texts.specs.Release.{index_path, is_source}
 use Rattle.texts.specs.Places.{place_at, place_path, places_in}
-use Rattle.texts.specs.declared.places.Place.{Place}
+use Rattle.texts.specs.declared.places.IndexPlace.{IndexPlace}
 use Rattle.texts.proofs.Pairs.{pairs_flat, pairs_map, pairs_none}
 
 -- ---- names without a slash
@@ -126,7 +126,7 @@ pub record IsNamed (s : Suite) : Type 0 where
   pub components_apart : AllPairs (λ c d. c ≢ d) s.components
   pub architectures_apart : AllPairs (λ a b. a ≢ b) s.architectures
 
-abbrev PlacesDiffer : Place → Place → Type 0
+abbrev PlacesDiffer : IndexPlace → IndexPlace → Type 0
 PlacesDiffer p q = place_path p ≢ place_path q
 
 pub places_apart : (s : Suite) → IsNamed s → AllPairs (λ p q. place_path p ≢ place_path q) (places_in s.components s.architectures)

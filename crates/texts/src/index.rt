@@ -8,7 +8,7 @@ ghost use Rattle.texts.specs.Indices.{text_at, folder_texts, suite_texts, index_
 
 use crate::binary_index::push_packages;
 use crate::date::LATEST;
-use crate::places::{Place, places_of};
+use crate::places::{IndexPlace, places_of};
 use crate::source_index::push_sources;
 use crate::suite_release::release_text;
 use para::{Listed, Text};
@@ -62,7 +62,7 @@ fn index_for(
     alloc: Global,
     shelves: &Shelves,
     suite: usize,
-    place: &Place,
+    place: &IndexPlace,
 ) -> Result<Index, AllocError>
     ensures { IfOk result (λ index. index ≡ index_of (place_entry shelves.now suite place.now)) }
 {
@@ -81,7 +81,7 @@ fn indices_for(
     alloc: Global,
     shelves: &Shelves,
     suite: usize,
-    places: &[Place],
+    places: &[IndexPlace],
 ) -> Result<Vec<Index>, AllocError>
     ensures { IfOk result (λ indices. indices.items ≡ map (λ p. index_of (place_entry shelves.now suite p)) places.now) }
 {
@@ -93,7 +93,7 @@ fn indices_for(
 }
 
 /// The places of the indices of a suite.
-fn suite_places(alloc: Global, suite: &Suite) -> Result<Listed<Place>, AllocError>
+fn suite_places(alloc: Global, suite: &Suite) -> Result<Listed<IndexPlace>, AllocError>
     ensures { IfOk result (λ places. places ≡ places_in suite.now.components suite.now.architectures) }
 {
     places_of(
@@ -130,7 +130,7 @@ pub fn indices_of(
 }
 
 /// Whether the index of a place stands at the path, from the folder of its suite.
-fn is_at(alloc: Global, place: &Place, path: &str) -> Result<bool, AllocError>
+fn is_at(alloc: Global, place: &IndexPlace, path: &str) -> Result<bool, AllocError>
     ensures { IfOk result (λ found. found ≡ bytes_eq (place_path place.now) path.now) }
 {
     let own = index_path(alloc, place.component.as_str(), place.architecture.as_str())?;
@@ -142,7 +142,7 @@ fn place_text(
     alloc: Global,
     shelves: &Shelves,
     suite: usize,
-    place: &Place,
+    place: &IndexPlace,
 ) -> Result<Vec<u8>, AllocError>
     ensures { IfOk result (λ text. text.items ≡ place_text shelves.now suite place.now) }
 {
@@ -160,7 +160,7 @@ fn text_among(
     alloc: Global,
     shelves: &Shelves,
     suite: usize,
-    places: &[Place],
+    places: &[IndexPlace],
     path: &str,
 ) -> Result<Option<Vec<u8>>, AllocError>
     ensures { IfOk result (λ text. option_map (λ v. v.items) text ≡ text_at path.now (map (place_entry shelves.now suite) places.now)) }

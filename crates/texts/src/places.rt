@@ -9,7 +9,7 @@ use std::alloc::{AllocError, Global};
 
 /// What distinguishes an index of a suite from its other indices.
 #[derive(Drop)]
-pub struct Place {
+pub struct IndexPlace {
     pub component: Text,
     pub architecture: Text,
 }
@@ -19,12 +19,12 @@ fn push_places(
     alloc: Global,
     component: &str,
     architectures: &[Text],
-    places: &mut Vec<Place>,
+    places: &mut Vec<IndexPlace>,
 ) -> Result<(), AllocError>
     ensures { OnOk result (places.new.items ≡ places.old.items ++ map (place_at component.now) architectures.now) }
 {
     for architecture in architectures {
-        places.push(Place {
+        places.push(IndexPlace {
             component: Text::new(alloc, component)?,
             architecture: architecture.try_clone()?,
         })?;
@@ -37,7 +37,7 @@ pub fn places_of(
     alloc: Global,
     components: &[Text],
     architectures: &[Text],
-) -> Result<Listed<Place>, AllocError>
+) -> Result<Listed<IndexPlace>, AllocError>
     ensures { IfOk result (λ places. places ≡ places_in components.now architectures.now) }
 {
     let mut places = Vec::new(alloc);

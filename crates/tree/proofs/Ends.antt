@@ -4,7 +4,7 @@ use Rattle.std.specs.Prelude.{Contains}
 use Rattle.sums.proofs.Members.{here, there, which, no_member}
 use Rattle.suites.specs.declared.item.PoolFile.{PoolFile}
 use Rattle.tree.specs.Tree.{Tree, left_by, made}
-use Rattle.tree.specs.declared.steps.Step.TheVariants.{Place, Show, Remove}
+use Rattle.tree.specs.declared.steps.Step.TheVariants.{Write, Show, Remove}
 use Rattle.tree.proofs.Walks.{at_path, at_suite}
 
 -- at one path the same contents
@@ -14,13 +14,13 @@ AreAgreed files = (f g : PoolFile) → Contains files f → Contains files g →
 module _ (new : ℕ → List PoolFile) where
   -- After writes of files of the pool, each of these files is there that was written or was there.
   pub placed_all : (files : List PoolFile) → AreAgreed files → (written : List PoolFile) → ((f : PoolFile) → Contains written f → Contains files f) → (t : Tree)
-      → (f : PoolFile) → Contains files f → Contains written f ⊎ (t.pool f.path ≡ Some f.print) → (left_by new t (map Place written)).pool f.path ≡ Some f.print
+      → (f : PoolFile) → Contains files f → Contains written f ⊎ (t.pool f.path ≡ Some f.print) → (left_by new t (map Write written)).pool f.path ≡ Some f.print
   placed_all files agreed [] of_pool t f h w = elim w [
     | inl k ↦ no_member f k
     | inr e ↦ e
   ]
   placed_all files agreed (g ∷ gs) of_pool t f h w =
-      placed_all files agreed gs (λ x k. of_pool x (there g x gs k)) (made new t (Place g)) f h
+      placed_all files agreed gs (λ x k. of_pool x (there g x gs k)) (made new t (Write g)) f h
       (at_path (λ o. Contains gs f ⊎ (o ≡ Some f.print)) f.path g.path (Some g.print) (t.pool f.path)
       (λ same. inr (ap Some (sym (agreed f g h (of_pool g (here g gs)) same))))
       (λ other. elim w [

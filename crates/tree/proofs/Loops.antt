@@ -6,8 +6,8 @@ use Rattle.std.specs.String.{string_bytes}
 use Rattle.suites.specs.declared.item.PoolFile.{PoolFile}
 use Rattle.suites.specs.declared.shelves.SharedFile.{SharedFile}
 use Rattle.tree.specs.declared.steps.Step.{Step}
-use Rattle.tree.specs.declared.steps.Step.TheVariants.{Place}
+use Rattle.tree.specs.declared.steps.Step.TheVariants.{Write}
 
 -- the steps for those files that pass
 abbrev pub placed : (PoolFile → Bool) → List (String Global × SharedFile) → List Step
-placed p es = map Place (filter p (map (λ e. record { path = string_bytes e.0; print = e.1.print }) es))
+placed p es = map Write (filter p (map (λ e. record { path = string_bytes e.0; print = e.1.print }) es))

@@ -14,7 +14,7 @@ use Rattle.suites.specs.declared.item.PoolFile.{PoolFile}
 use Rattle.tree.specs.Planned.{planned}
 use Rattle.tree.specs.Tree.{Tree, AreShown, AtEach, IsBegun, IsFirm, IsFoundFor, IsNeeded, IsWholeFor, is_among, is_new, is_other, kept_back, left_by, made}
 use Rattle.tree.specs.declared.steps.Step.{Step}
-use Rattle.tree.specs.declared.steps.Step.TheVariants.{Place, Show, Remove}
+use Rattle.tree.specs.declared.steps.Step.TheVariants.{Write, Show, Remove}
 use Rattle.tree.proofs.Ends.{AreAgreed, placed_all, shown_all, removed_all}
 use Rattle.tree.proofs.Sound.{Sound, Placing, Settled, placing_keeps, show_keeps, removal_keeps, placing_sound, settled_sound}
 use Rattle.tree.proofs.Walks.{IsPlace, IsShow, IsRemoval, among, at_each, at_path, each_map, join, left_by-append, places, removals, shows, walk}
@@ -23,10 +23,10 @@ use Rattle.tree.proofs.Walks.{IsPlace, IsShow, IsRemoval, among, at_each, at_pat
 
 module _ (there : List ℕ → Option Print) (files : List PoolFile) (suites : List ℕ) (left : List (List ℕ)) where
   abbrev news : List Step
-  news = map Place (filter (is_new there) files)
+  news = map Write (filter (is_new there) files)
 
   abbrev others : List Step
-  others = map Place (filter (is_other there) files)
+  others = map Write (filter (is_other there) files)
 
   abbrev removes : List Step
   removes = map Remove (kept_back files left)
@@ -95,7 +95,7 @@ not_other a =
     let sha256 : bytes_eq a.sha256 a.sha256 ≡ true = (bytes_eq-Decides a.sha256 a.sha256).1 refl in
     rw (size, md5, sha1, sha256) refl
 
-placed_is : (f g : PoolFile) → Place f ≡ Place g → f ≡ g
+placed_is : (f g : PoolFile) → Write f ≡ Write g → f ≡ g
 placed_is f g e = cc e
 
 -- ---- what the contract of a plan says
@@ -146,12 +146,12 @@ module _ (there : List ℕ → Option Print) (files : List PoolFile) (suites : L
       subst (λ t. t.pool f.path ≡ Some f.print) (sym (ends tree new)) three.1
     where
       show_stays : (t : Tree) (s : Step) → IsShow s → t.pool f.path ≡ Some f.print → (made new t s).pool f.path ≡ Some f.print
-      show_stays t (Place g) k i = absurd k
+      show_stays t (Write g) k i = absurd k
       show_stays t (Show n) k i = i
       show_stays t (Remove p) k i = absurd k
 
       removal_stays : (t : Tree) (s : Step) → IsRemoval files left s → t.pool f.path ≡ Some f.print → (made new t s).pool f.path ≡ Some f.print
-      removal_stays t (Place g) k i = absurd k
+      removal_stays t (Write g) k i = absurd k
       removal_stays t (Show n) k i = absurd k
       removal_stays t (Remove p) k i = at_path (λ o. o ≡ Some f.print) f.path p None (t.pool f.path) (λ same. cc (sym (among files f h) ∙ ap (is_among files) same ∙ k.1)) (λ other. i)
 
@@ -170,12 +170,12 @@ module _ (there : List ℕ → Option Print) (files : List PoolFile) (suites : L
       subst (λ t. t.named suite ≡ new suite) (sym (ends tree new)) three.1
     where
       same_stays : (t : Tree) (s : Step) → IsPlace files s → t.named suite ≡ tree.named suite → (made new t s).named suite ≡ tree.named suite
-      same_stays t (Place g) k i = i
+      same_stays t (Write g) k i = i
       same_stays t (Show n) k i = absurd k
       same_stays t (Remove p) k i = absurd k
 
       stays : (t : Tree) (s : Step) → IsRemoval files left s → t.named suite ≡ new suite → (made new t s).named suite ≡ new suite
-      stays t (Place g) k i = absurd k
+      stays t (Write g) k i = absurd k
       stays t (Show n) k i = absurd k
       stays t (Remove p) k i = i
 
@@ -197,8 +197,8 @@ module _ (there : List ℕ → Option Print) (files : List PoolFile) (suites : L
       let b = others there files suites left in
       let c = map Show suites in
       let d = removes there files suites left in
-      let one = walk new Inv Inv Touches stays (λ t i. i) a (each_map Touches Place (filter (is_new there) files) (λ f h. of_pool f (from_filter (is_new there) f files h).0)) tree refl in
-      let two = walk new Inv Inv Touches stays (λ t i. i) b (each_map Touches Place (filter (is_other there) files) (λ f h. of_pool f (from_filter (is_other there) f files h).0)) (left_by new tree a) one.1 in
+      let one = walk new Inv Inv Touches stays (λ t i. i) a (each_map Touches Write (filter (is_new there) files) (λ f h. of_pool f (from_filter (is_new there) f files h).0)) tree refl in
+      let two = walk new Inv Inv Touches stays (λ t i. i) b (each_map Touches Write (filter (is_other there) files) (λ f h. of_pool f (from_filter (is_other there) f files h).0)) (left_by new tree a) one.1 in
       let three = walk new Inv Inv Touches stays (λ t i. i) c (each_map Touches Show suites (λ s h. tt)) (left_by new (left_by new tree a) b) two.1 in
       let four = walk new Inv Inv Touches stays (λ t i. i) d (each_map Touches Remove (kept_back files left) (λ q h e. not_left (subst (λ p. Contains left p) (sym e) (from_filter (λ q. not (is_among files q)) q left h).0))) (left_by new (left_by new (left_by new tree a) b) c) three.1 in
       let at = left_by-append new a b tree in
@@ -210,7 +210,7 @@ module _ (there : List ℕ → Option Print) (files : List PoolFile) (suites : L
     where
       -- a step at another path
       Touches : Step → Type 0
-      Touches (Place f) = path ≢ f.path
+      Touches (Write f) = path ≢ f.path
       Touches (Show suite) = ⊤
       Touches (Remove p) = path ≢ p
 
@@ -218,27 +218,27 @@ module _ (there : List ℕ → Option Print) (files : List PoolFile) (suites : L
       of_pool f h e = cc (sym free ∙ (ap (is_among files) e ∙ among files f h))
 
       stays : (t : Tree) (s : Step) → Touches s → t.pool path ≡ tree.pool path → (made new t s).pool path ≡ tree.pool path
-      stays t (Place g) k i = at_path (λ o. o ≡ tree.pool path) path g.path (Some g.print) (t.pool path) (λ same. absurd (k same)) (λ other. i)
+      stays t (Write g) k i = at_path (λ o. o ≡ tree.pool path) path g.path (Some g.print) (t.pool path) (λ same. absurd (k same)) (λ other. i)
       stays t (Show n) k i = i
       stays t (Remove p) k i = at_path (λ o. o ≡ tree.pool path) path p None (t.pool path) (λ same. absurd (k same)) (λ other. i)
 
   -- no step writes what is known to be there
   pub needed_alone : IsNeeded there steps
   unfolding is_new is_other
-  needed_alone f h known = by_kind (subst (λ s. Contains s (Place f)) is h)
+  needed_alone f h known = by_kind (subst (λ s. Contains s (Write f)) is h)
     where
-      written : (p : PoolFile → Bool) → Contains (map Place (filter p files)) (Place f) → p f ≡ true
-      written p k = let m = from_map Place (Place f) (filter p files) k in ap p (sym (placed_is m.0 f m.2)) ∙ (from_filter p m.0 files m.1).1
+      written : (p : PoolFile → Bool) → Contains (map Write (filter p files)) (Write f) → p f ≡ true
+      written p k = let m = from_map Write (Write f) (filter p files) k in ap p (sym (placed_is m.0 f m.2)) ∙ (from_filter p m.0 files m.1).1
 
-      by_kind : Contains (planned there files suites left) (Place f) → ⊥
-      by_kind k = elim (Contains-append_cases ((news there files suites left ++ others there files suites left) ++ map Show suites) (removes there files suites left) (Place f) k) [
-        | inl abc ↦ elim (Contains-append_cases (news there files suites left ++ others there files suites left) (map Show suites) (Place f) abc) [
-          | inl ab ↦ elim (Contains-append_cases (news there files suites left) (others there files suites left) (Place f) ab) [
+      by_kind : Contains (planned there files suites left) (Write f) → ⊥
+      by_kind k = elim (Contains-append_cases ((news there files suites left ++ others there files suites left) ++ map Show suites) (removes there files suites left) (Write f) k) [
+        | inl abc ↦ elim (Contains-append_cases (news there files suites left ++ others there files suites left) (map Show suites) (Write f) abc) [
+          | inl ab ↦ elim (Contains-append_cases (news there files suites left) (others there files suites left) (Write f) ab) [
             | inl a ↦ (let e : is_none (there f.path) ≡ true = written (is_new there) a in cc (sym e ∙ ap is_none known))
             | inr b ↦ (let e : option_map_or (λ print. not (same_print print f.print)) (there f.path) false ≡ true = written (is_other there) b in
                 cc (sym e ∙ (ap (λ o. option_map_or (λ print. not (same_print print f.print)) o false) known ∙ not_other f.print)))
           ]
-          | inr c ↦ (let m = from_map Show (Place f) suites c in cc m.2)
+          | inr c ↦ (let m = from_map Show (Write f) suites c in cc m.2)
         ]
-        | inr d ↦ (let m = from_map Remove (Place f) (kept_back files left) d in cc m.2)
+        | inr d ↦ (let m = from_map Remove (Write f) (kept_back files left) d in cc m.2)
       ]

@@ -5,7 +5,7 @@ use Rattle.sums.specs.declared.print.Print.{Print}
 use Rattle.suites.specs.declared.item.PoolFile.{PoolFile}
 use Rattle.tree.specs.Tree.{Tree, AreShown, is_among, made}
 use Rattle.tree.specs.declared.steps.Step.{Step}
-use Rattle.tree.specs.declared.steps.Step.TheVariants.{Place, Show, Remove}
+use Rattle.tree.specs.declared.steps.Step.TheVariants.{Write, Show, Remove}
 use Rattle.tree.proofs.Walks.{IsPlace, IsShow, IsRemoval, among, at_path, at_suite}
 
 -- What is asked of the contents at a path for a file that is named: that they are its own, or that there are some.
@@ -23,7 +23,7 @@ module _ (R : Option Print → PoolFile → Type 0) (own : (f : PoolFile) → R 
 
   pub placing_keeps : ((suite : ℕ) (f g : PoolFile) → Contains (first.named suite) f → Contains files g → f.path ≡ g.path → R (Some g.print) f)
       → (t : Tree) (s : Step) → IsPlace files s → Placing t → Placing (made new t s)
-  placing_keeps over t (Place g) h i = record {
+  placing_keeps over t (Write g) h i = record {
     names = i.names;
     held = λ suite f named. at_path (λ o. R o f) f.path g.path (Some g.print) (t.pool f.path) (λ same. over suite f g named h same) (λ other. i.held suite f named);
   }
@@ -37,7 +37,7 @@ module _ (R : Option Print → PoolFile → Type 0) (own : (f : PoolFile) → R 
     pub files_there : (f : PoolFile) → Contains files f → t.pool f.path ≡ Some f.print
 
   pub show_keeps : AreShown files new → (t : Tree) (s : Step) → IsShow s → Settled t → Settled (made new t s)
-  show_keeps shown t (Place g) h i = absurd h
+  show_keeps shown t (Write g) h i = absurd h
   show_keeps shown t (Show n) h i = record {
     names = λ suite f. at_suite (λ list. Contains list f → Contains (first.named suite) f ⊎ Contains files f) suite n (new suite) (t.named suite) (λ same k. inr (shown suite f k)) (λ other k. i.names suite f k);
     held = i.held;
@@ -47,7 +47,7 @@ module _ (R : Option Print → PoolFile → Type 0) (own : (f : PoolFile) → R 
 
   pub removal_keeps : (left : List (List ℕ)) → ((suite : ℕ) (f : PoolFile) → Contains (first.named suite) f → Contains left f.path → ⊥)
       → (t : Tree) (s : Step) → IsRemoval files left s → Settled t → Settled (made new t s)
-  removal_keeps left unnamed t (Place g) h i = absurd h
+  removal_keeps left unnamed t (Write g) h i = absurd h
   removal_keeps left unnamed t (Show n) h i = absurd h
   removal_keeps left unnamed t (Remove p) h i = record {
     names = i.names;

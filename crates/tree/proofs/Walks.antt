@@ -8,7 +8,7 @@ use Rattle.suites.proofs.ListMembers.{from_filter}
 use Rattle.suites.specs.declared.item.PoolFile.{PoolFile}
 use Rattle.tree.specs.Tree.{Tree, AtEach, is_among, kept_back, left_by, made}
 use Rattle.tree.specs.declared.steps.Step.{Step}
-use Rattle.tree.specs.declared.steps.Step.TheVariants.{Place, Show, Remove}
+use Rattle.tree.specs.declared.steps.Step.TheVariants.{Write, Show, Remove}
 
 -- ---- at one path, at one suite
 
@@ -64,26 +64,26 @@ module _ (new : ℕ → List PoolFile) where
 
 -- a file of the pool is written
 abbrev pub IsPlace : List PoolFile → Step → Type 0
-IsPlace files (Place f) = Contains files f
+IsPlace files (Write f) = Contains files f
 IsPlace files (Show suite) = ⊥
 IsPlace files (Remove path) = ⊥
 
 abbrev pub IsShow : Step → Type 0
-IsShow (Place f) = ⊥
+IsShow (Write f) = ⊥
 IsShow (Show suite) = ⊤
 IsShow (Remove path) = ⊥
 
 -- a path goes that was left, and at which no file of the pool stands
 abbrev pub IsRemoval : List PoolFile → List (List ℕ) → Step → Type 0
-IsRemoval files left (Place f) = ⊥
+IsRemoval files left (Write f) = ⊥
 IsRemoval files left (Show suite) = ⊥
 IsRemoval files left (Remove path) = Contains left path × (is_among files path ≡ false)
 
 pub among : (files : List PoolFile) (f : PoolFile) → Contains files f → is_among files f.path ≡ true
 among files f h = any_true (λ g. bytes_eq g.path f.path) files f h (bytes_same f.path f.path refl)
 
-pub places : (files : List PoolFile) (p : PoolFile → Bool) → Each (IsPlace files) (map Place (filter p files))
-places files p = each_map (IsPlace files) Place (filter p files) (λ f h. (from_filter p f files h).0)
+pub places : (files : List PoolFile) (p : PoolFile → Bool) → Each (IsPlace files) (map Write (filter p files))
+places files p = each_map (IsPlace files) Write (filter p files) (λ f h. (from_filter p f files h).0)
 
 pub shows : (suites : List ℕ) → Each IsShow (map Show suites)
 shows suites = each_map IsShow Show suites (λ s h. tt)

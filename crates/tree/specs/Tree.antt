@@ -6,7 +6,7 @@ use Rattle.sums.specs.Prints.{same_print}
 use Rattle.sums.specs.declared.print.Print.{Print}
 use Rattle.suites.specs.declared.item.PoolFile.{PoolFile}
 use Rattle.tree.specs.declared.steps.Step.{Step}
-use Rattle.tree.specs.declared.steps.Step.TheVariants.{Place, Show, Remove}
+use Rattle.tree.specs.declared.steps.Step.TheVariants.{Write, Show, Remove}
 
 -- The contents at each path of the pool, by their prints, and for each suite, by its position in the configuration, the files
 -- that its indices name.
@@ -30,7 +30,7 @@ pub record IsFoundFor (first tree : Tree) : Type 0 where
 
 -- the tree after a step, if the new indices of suites name these files
 abbrev pub made : (ℕ → List PoolFile) → Tree → Step → Tree
-made new tree (Place f) = record { pool = λ path. if bytes_eq path f.path then Some f.print else tree.pool path; named = tree.named }
+made new tree (Write f) = record { pool = λ path. if bytes_eq path f.path then Some f.print else tree.pool path; named = tree.named }
 made new tree (Show suite) = record { pool = tree.pool; named = λ s. if nat_eq s suite then new s else tree.named s }
 made new tree (Remove gone) = record { pool = λ path. if bytes_eq path gone then None else tree.pool path; named = tree.named }
 
@@ -78,4 +78,4 @@ is_other there f = option_map_or (λ print. not (same_print print f.print)) (the
 
 -- no step writes what is known to be there
 abbrev pub IsNeeded : (List ℕ → Option Print) → List Step → Type 0
-IsNeeded there steps = (f : PoolFile) → Contains steps (Place f) → there f.path ≢ Some f.print
+IsNeeded there steps = (f : PoolFile) → Contains steps (Write f) → there f.path ≢ Some f.print

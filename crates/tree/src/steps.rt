@@ -4,7 +4,7 @@ ghost use Rattle.std.specs.Prelude.{◌≡◌, map, filter, is_none, IfOk};
 ghost use Rattle.std.specs.BTreeMap.{get_by_text};
 ghost use Rattle.tree.specs.Files.{files_in, pool_files};
 ghost use Rattle.tree.specs.Tree.{is_among, is_new, is_other, kept_back};
-ghost use Rattle.tree.specs.declared.steps.Step.TheVariants.{Place, Show, Remove};
+ghost use Rattle.tree.specs.declared.steps.Step.TheVariants.{Write, Show, Remove};
 
 use para::Text;
 use std::alloc::{AllocError, Global};
@@ -16,7 +16,7 @@ use sums::Print;
 #[derive(Drop)]
 pub enum Step {
     /// A file of the pool is written beside its place, and renamed there.
-    Place(PoolFile),
+    Write(PoolFile),
     /// The suite at a position in the configuration shows its new folder of index texts: its link is renamed.
     Show(usize),
     /// The file at a path is removed. The pool has no file there.
@@ -24,10 +24,10 @@ pub enum Step {
 }
 
 /// The step that writes the file of the pool at a path.
-fn place(alloc: Global, path: &str, print: Print) -> Result<Step, AllocError>
-    ensures { IfOk result (λ step. step ≡ Place (record { path = path.now; print = print })) }
+fn write_step(alloc: Global, path: &str, print: Print) -> Result<Step, AllocError>
+    ensures { IfOk result (λ step. step ≡ Write (record { path = path.now; print = print })) }
 {
-    Ok(Step::Place(PoolFile {
+    Ok(Step::Write(PoolFile {
         path: Text::new(alloc, path)?,
         print,
     }))
@@ -75,12 +75,12 @@ pub fn placed_new(
     there: &BTreeMap<String, Print>,
     files: &BTreeMap<String, SharedFile>,
 ) -> Result<Vec<Step>, AllocError>
-    ensures { IfOk result (λ steps. steps.items ≡ map Place (filter (is_new (get_by_text there.now)) (files_in files.now))) }
+    ensures { IfOk result (λ steps. steps.items ≡ map Write (filter (is_new (get_by_text there.now)) (files_in files.now))) }
 {
     let mut steps = Vec::new(alloc);
     for (path, file) in files {
         if is_free(there, path.as_str()) {
-            steps.push(place(alloc, path.as_str(), file.print)?)?;
+            steps.push(write_step(alloc, path.as_str(), file.print)?)?;
         }
     }
     Ok(steps)
@@ -92,12 +92,12 @@ pub fn placed_over(
     there: &BTreeMap<String, Print>,
     files: &BTreeMap<String, SharedFile>,
 ) -> Result<Vec<Step>, AllocError>
-    ensures { IfOk result (λ steps. steps.items ≡ map Place (filter (is_other (get_by_text there.now)) (files_in files.now))) }
+    ensures { IfOk result (λ steps. steps.items ≡ map Write (filter (is_other (get_by_text there.now)) (files_in files.now))) }
 {
     let mut steps = Vec::new(alloc);
     for (path, file) in files {
         if is_other(there, path.as_str(), file.print) {
-            steps.push(place(alloc, path.as_str(), file.print)?)?;
+            steps.push(write_step(alloc, path.as_str(), file.print)?)?;
         }
     }
     Ok(steps)

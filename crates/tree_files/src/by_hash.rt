@@ -4,7 +4,7 @@
 //! `by-hash/SHA256/DIGEST` for its own texts and those of the two states before it. These are further names of the same files.
 
 use crate::site::Site;
-use crate::states::Wanted;
+use crate::states::SuiteState;
 use exported::has_parts;
 use folders::{Disk, Folder, FolderFault, id_of};
 
@@ -158,7 +158,7 @@ fn name_texts_of<R: Disk>(
 }
 
 /// Adds names by digest to the state that a suite is to show, which is made: for its own texts, and for those of the two states before it.
-pub fn add_by_hash<R: Disk>(rt: &R, site: &Site<R>, suite: &Wanted) -> Result<(), FolderFault> {
+pub fn add_by_hash<R: Disk>(rt: &R, site: &Site<R>, suite: &SuiteState) -> Result<(), FolderFault> {
     let Some(to) = site.dists.within(rt, suite.state.as_str())? else {
         return Ok(());
     };

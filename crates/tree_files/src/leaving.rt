@@ -1,13 +1,13 @@
 //! Suites that the configuration no longer has, as they leave the tree.
 
 use crate::site::Site;
-use crate::states::{Wanted, linked};
+use crate::states::{SuiteState, linked};
 use exported::{Manifest, is_name, is_state_of, new_name};
 use folders::{Disk, FolderFault};
 use std::alloc::{AllocError, Global};
 
 /// Whether one of the suites has the codename.
-fn has_suite(suites: &[Wanted], codename: &str) -> bool {
+fn has_suite(suites: &[SuiteState], codename: &str) -> bool {
     suites
         .iter()
         .any(|suite| suite.codename.as_str() == codename)
@@ -16,7 +16,7 @@ fn has_suite(suites: &[Wanted], codename: &str) -> bool {
 /// The codenames that the manifest knows and that none of the suites has.
 fn unknown_names(
     alloc: Global,
-    suites: &[Wanted],
+    suites: &[SuiteState],
     manifest: &Manifest,
 ) -> Result<Vec<String>, AllocError> {
     let mut names = Vec::new(alloc);
@@ -60,7 +60,7 @@ fn has_left<R: Disk>(rt: &R, site: &Site<R>, codename: &str) -> Result<bool, Fol
 pub fn leave_suites<R: Disk>(
     rt: &R,
     site: &Site<R>,
-    suites: &[Wanted],
+    suites: &[SuiteState],
     manifest: &mut Manifest,
 ) -> Result<Vec<String>, FolderFault> {
     let mut gone = Vec::new(rt.alloc());

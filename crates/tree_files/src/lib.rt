@@ -24,7 +24,7 @@ pub use placing::{
 pub use planning::{Counts, counts_of, manifest_of, steps_of};
 pub use site::{Site, kept_of, opened_folders};
 pub use states::{
-    Standing, Wanted, find_all_shown, has_lost_signature, shows_signed, taken_component,
+    Standing, SuiteState, find_all_shown, has_lost_signature, shows_signed, taken_component,
     unknown_suites,
 };
 pub use writing::{PAGE, move_state, touch_release, write_in};

@@ -3,7 +3,7 @@
 use crate::looking::{here, stamp_of};
 use crate::paths::{MANIFEST, cut};
 use crate::site::Site;
-use crate::states::Wanted;
+use crate::states::SuiteState;
 use crate::writing::touch_release;
 use exported::{Manifest, Word, folder_of, is_state_of, new_name};
 use folders::{Disk, Folder, FolderFault};
@@ -13,7 +13,7 @@ use suites::{PoolFile, Shelves};
 
 /// Opens the folder that a file of the pool is to lie in. It and those on the way to it are made, if they are not there.
 ///
-/// Refused as `Place` if what has the path of the file is the database's, or if the disk fails, and for want of memory.
+/// Refused as `Path` if what has the path of the file is the database's, or if the disk fails, and for want of memory.
 pub fn open_place<R: Disk>(
     rt: &R,
     site: &Site<R>,
@@ -100,7 +100,7 @@ pub fn remove_left<R: Disk>(
 }
 
 /// Has a suite show its state, by the rename of one link.
-pub fn show_state<R: Disk>(rt: &R, site: &Site<R>, suite: &Wanted) -> Result<(), FolderFault> {
+pub fn show_state<R: Disk>(rt: &R, site: &Site<R>, suite: &SuiteState) -> Result<(), FolderFault> {
     site.dists.sync(rt.alloc())?;
     touch_release(rt, site, suite)?;
     site.put_link(
@@ -128,7 +128,11 @@ fn strangers(
 }
 
 /// Notes in the manifest what suites show.
-fn tell_shown(alloc: Global, suites: &[Wanted], manifest: &mut Manifest) -> Result<(), AllocError> {
+fn tell_shown(
+    alloc: Global,
+    suites: &[SuiteState],
+    manifest: &mut Manifest,
+) -> Result<(), AllocError> {
     for suite in suites {
         if let Some(shown) = suite.shown() {
             manifest.set_shown(alloc, suite.codename.as_str(), shown, suite.shown_before())?;
@@ -142,7 +146,7 @@ fn tell_shown(alloc: Global, suites: &[Wanted], manifest: &mut Manifest) -> Resu
 pub fn leave(
     alloc: Global,
     shelves: &Shelves,
-    suites: &[Wanted],
+    suites: &[SuiteState],
     manifest: &mut Manifest,
 ) -> Result<usize, AllocError> {
     let paths = strangers(alloc, shelves, manifest)?;
@@ -168,7 +172,11 @@ pub fn save<R: Disk>(rt: &R, site: &Site<R>, manifest: &mut Manifest) -> Result<
 }
 
 /// Removes what an export that was stopped left half made. It only takes room, so a failure to remove it is passed over.
-pub fn remove_cut<R: Disk>(rt: &R, site: &Site<R>, suites: &[Wanted]) -> Result<(), AllocError> {
+pub fn remove_cut<R: Disk>(
+    rt: &R,
+    site: &Site<R>,
+    suites: &[SuiteState],
+) -> Result<(), AllocError> {
     let _ = site.remove_cut(rt);
     for suite in suites {
         let name = new_name(rt.alloc(), suite.codename.as_str())?;
@@ -178,7 +186,7 @@ pub fn remove_cut<R: Disk>(rt: &R, site: &Site<R>, suites: &[Wanted]) -> Result<
 }
 
 /// Whether a folder in `dists` is that of a state that no suite needs any more.
-fn is_old(suites: &[Wanted], name: &str) -> bool {
+fn is_old(suites: &[SuiteState], name: &str) -> bool {
     for suite in suites {
         if is_state_of(suite.codename.as_str(), name) {
             return !suite.keeps(name);
@@ -191,7 +199,7 @@ fn is_old(suites: &[Wanted], name: &str) -> bool {
 pub fn remove_old_states<R: Disk>(
     rt: &R,
     site: &Site<R>,
-    suites: &[Wanted],
+    suites: &[SuiteState],
 ) -> Result<(), FolderFault> {
     let (dists, kept) = (&site.dists, &site.kept);
     for name in &dists.names(rt)? {

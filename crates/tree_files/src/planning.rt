@@ -1,7 +1,7 @@
 //! What an export is to do in a tree, by what is there.
 
 use crate::paths::MANIFEST;
-use crate::states::{Standing, Wanted};
+use crate::states::{Standing, SuiteState};
 use exported::Manifest;
 use folders::{Disk, Folder, FolderFault};
 use para::Text;
@@ -35,7 +35,7 @@ pub fn manifest_of<R: Disk>(rt: &R, own: &Folder<R>) -> Result<Manifest, FolderF
 }
 
 /// The positions of the suites that are to show another state.
-fn positions(alloc: Global, suites: &[Wanted]) -> Result<Vec<usize>, AllocError> {
+fn positions(alloc: Global, suites: &[SuiteState]) -> Result<Vec<usize>, AllocError> {
     let mut positions = Vec::new(alloc);
     for (position, suite) in suites.iter().enumerate() {
         if suite.standing == Standing::Shows {
@@ -46,7 +46,7 @@ fn positions(alloc: Global, suites: &[Wanted]) -> Result<Vec<usize>, AllocError>
 }
 
 /// Whether something is shown now that was not when the manifest was written, or will be after the export.
-fn shows_something(suites: &[Wanted]) -> bool {
+fn shows_something(suites: &[SuiteState]) -> bool {
     suites.iter().any(|suite| suite.is_changed || suite.standing == Standing::Shows)
 }
 
@@ -55,7 +55,7 @@ pub fn steps_of(
     alloc: Global,
     shelves: &Shelves,
     there: &BTreeMap<String, Print>,
-    suites: &[Wanted],
+    suites: &[SuiteState],
     manifest: &Manifest,
 ) -> Result<Vec<Step>, AllocError> {
     let left: Vec<Text> = if shows_something(suites) {
@@ -72,7 +72,7 @@ pub fn counts_of(steps: &[Step], shelves: &Shelves) -> Counts {
     let mut counts = Counts::default();
     for step in steps {
         match step {
-            Step::Place(_) => counts.new = counts.new.saturating_add(1),
+            Step::Write(_) => counts.new = counts.new.saturating_add(1),
             Step::Show(_) => {}
             Step::Remove(_) => counts.gone = counts.gone.saturating_add(1),
         }

@@ -47,14 +47,14 @@ pub fn kept_of<R: Disk>(rt: &R, database: &str) -> Result<Kept, FolderFault> {
 impl<R: Disk> Site<R> {
     /// Begins a file among those of exports, open to be written on.
     ///
-    /// Refused as `Place` if the disk fails, and for want of memory.
+    /// Refused as `Path` if the disk fails, and for want of memory.
     pub fn begin(&self, rt: &R) -> Result<R::File, FolderFault> {
         self.own.begin_new(rt, &self.kept, NEW)
     }
 
     /// Writes the next bytes on the file that was begun.
     ///
-    /// Refused as `Place` if the disk fails, and for want of memory.
+    /// Refused as `Path` if the disk fails, and for want of memory.
     pub fn write_on<W: Write>(
         &self,
         alloc: Global,
@@ -69,7 +69,7 @@ impl<R: Disk> Site<R> {
 
     /// Has the file that was written on the disk, if that is asked, and renames it to a name in a folder.
     ///
-    /// Refused as `Place` if what has the name is the database's or a folder, or if the disk fails, and for want of memory.
+    /// Refused as `Path` if what has the name is the database's or a folder, or if the disk fails, and for want of memory.
     pub fn end(
         &self,
         rt: &R,
@@ -104,7 +104,7 @@ impl<R: Disk> Site<R> {
 
     /// Puts a file at a name in a folder: it is written beside, and renamed there. If that fails, what was written beside is removed.
     ///
-    /// Refused as `Place` if what has the name is the database's or a folder, or if the disk fails, and for want of memory.
+    /// Refused as `Path` if what has the name is the database's or a folder, or if the disk fails, and for want of memory.
     pub fn put(
         &self,
         rt: &R,

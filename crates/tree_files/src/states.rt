@@ -1,7 +1,7 @@
 //! The states that suites show, and that they are to show.
 
 use crate::site::Site;
-use exported::{Manifest, Shown, is_state_of};
+use exported::{Manifest, ShownStates, is_state_of};
 use folders::{Disk, FolderFault};
 use rules::{Config, Suite};
 use std::alloc::{AllocError, Global};
@@ -20,7 +20,7 @@ pub enum Standing {
 
 /// A suite, and the state that it is to show.
 #[derive(Drop)]
-pub struct Wanted {
+pub struct SuiteState {
     /// The position of the suite in the configuration.
     pub position: usize,
     pub codename: String,
@@ -57,7 +57,7 @@ fn text_in(text: &Option<String>) -> Option<&str> {
     }
 }
 
-impl Wanted {
+impl SuiteState {
     /// The state that is shown before the export.
     pub fn link(&self) -> Option<&str> {
         text_in(&self.link)
@@ -128,8 +128,8 @@ fn text_paths(alloc: Global, suite: &Suite) -> Result<Vec<String>, AllocError> {
 }
 
 /// A suite of which no more is known than its configuration.
-fn unknown(alloc: Global, position: usize, suite: &Suite) -> Result<Wanted, AllocError> {
-    Ok(Wanted {
+fn unknown(alloc: Global, position: usize, suite: &Suite) -> Result<SuiteState, AllocError> {
+    Ok(SuiteState {
         position,
         codename: String::from_str(alloc, suite.codename.as_str())?,
         paths: text_paths(alloc, suite)?,
@@ -144,7 +144,7 @@ fn unknown(alloc: Global, position: usize, suite: &Suite) -> Result<Wanted, Allo
 }
 
 /// The suites of a configuration, of which no more is known.
-pub fn unknown_suites(alloc: Global, config: &Config) -> Result<Vec<Wanted>, AllocError> {
+pub fn unknown_suites(alloc: Global, config: &Config) -> Result<Vec<SuiteState>, AllocError> {
     let mut suites = Vec::new(alloc);
     for (position, suite) in config.suites().iter().enumerate() {
         suites.push(unknown(alloc, position, suite)?)?;
@@ -202,7 +202,7 @@ fn state_of<'a>(codename: &str, name: Option<&'a str>) -> Option<&'a str> {
 }
 
 /// The state that a suite showed before the one that its link leads to, by what the manifest says of it.
-fn state_before<'a>(codename: &str, link: Option<&str>, known: &'a Shown) -> Option<&'a str> {
+fn state_before<'a>(codename: &str, link: Option<&str>, known: &'a ShownStates) -> Option<&'a str> {
     if link == Some(known.state.as_str()) {
         state_of(codename, known.before())
     } else {
@@ -211,7 +211,11 @@ fn state_before<'a>(codename: &str, link: Option<&str>, known: &'a Shown) -> Opt
 }
 
 /// Finds what a suite showed.
-fn find_before(alloc: Global, manifest: &Manifest, suite: &mut Wanted) -> Result<(), AllocError> {
+fn find_before(
+    alloc: Global,
+    manifest: &Manifest,
+    suite: &mut SuiteState,
+) -> Result<(), AllocError> {
     let codename = suite.codename.as_str();
     if let Some(known) = manifest.shown(codename) {
         let link = text_in(&suite.link);
@@ -229,7 +233,7 @@ fn find_shown<R: Disk>(
     site: &Site<R>,
     is_waiting: bool,
     manifest: &Manifest,
-    suite: &mut Wanted,
+    suite: &mut SuiteState,
 ) -> Result<(), FolderFault> {
     suite.link = linked(rt, site, suite.codename.as_str())?;
     find_before(rt.alloc(), manifest, suite)?;
@@ -247,7 +251,7 @@ pub fn find_all_shown<R: Disk>(
     site: &Site<R>,
     is_waiting: bool,
     manifest: &Manifest,
-    suites: &mut [Wanted],
+    suites: &mut [SuiteState],
 ) -> Result<(), FolderFault> {
     for suite in suites {
         find_shown(rt, site, is_waiting, manifest, suite)?;
@@ -256,7 +260,11 @@ pub fn find_all_shown<R: Disk>(
 }
 
 /// Whether a suite shows a signed state.
-pub fn shows_signed<R: Disk>(rt: &R, site: &Site<R>, suite: &Wanted) -> Result<bool, FolderFault> {
+pub fn shows_signed<R: Disk>(
+    rt: &R,
+    site: &Site<R>,
+    suite: &SuiteState,
+) -> Result<bool, FolderFault> {
     match suite.link() {
         Some(link) => is_signed(rt, site, link),
         None => Ok(false),
@@ -267,7 +275,7 @@ pub fn shows_signed<R: Disk>(rt: &R, site: &Site<R>, suite: &Wanted) -> Result<b
 pub fn has_lost_signature<R: Disk>(
     rt: &R,
     site: &Site<R>,
-    suite: &Wanted,
+    suite: &SuiteState,
 ) -> Result<bool, FolderFault> {
     let Some(link) = suite.link() else {
         return Ok(false);

@@ -1,7 +1,7 @@
 //! The folder of a state, as it is written, and the moment of its Release.
 
 use crate::site::Site;
-use crate::states::Wanted;
+use crate::states::SuiteState;
 use folders::{Disk, Folder, FolderFault, Kept};
 use std::time::{Duration, SystemTime};
 
@@ -83,7 +83,7 @@ fn released_at<R: Disk>(
 fn shown_at<R: Disk>(
     rt: &R,
     site: &Site<R>,
-    suite: &Wanted,
+    suite: &SuiteState,
 ) -> Result<Option<SystemTime>, FolderFault> {
     match suite.link() {
         Some(link) if !suite.is_linked() => released_at(rt, site, link),
@@ -92,7 +92,11 @@ fn shown_at<R: Disk>(
 }
 
 /// Sets the time of modification of the Release of a suite's state: later than that of the state which is shown.
-pub fn touch_release<R: Disk>(rt: &R, site: &Site<R>, suite: &Wanted) -> Result<(), FolderFault> {
+pub fn touch_release<R: Disk>(
+    rt: &R,
+    site: &Site<R>,
+    suite: &SuiteState,
+) -> Result<(), FolderFault> {
     let before = shown_at(rt, site, suite)?;
     match (
         site.dists.within(rt, suite.state.as_str())?,

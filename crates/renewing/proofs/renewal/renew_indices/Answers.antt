@@ -1,7 +1,7 @@
 use Rattle.std.proofs.Common.{◌≡◌, ◌++◌, ◌<◌, List, length, get_or, ap, ◌∙◌, arith}
 use Rattle.keep.specs.Book.{Book, text_at}
 use Rattle.renewing.specs.Renewal.{index_after, renewed_index}
-use Rattle.texts.specs.declared.places.Place.{Place}
+use Rattle.texts.specs.declared.places.IndexPlace.{IndexPlace}
 use Rattle.keep.proofs.ReadLemmas.{reads_more}
 use Rattle.renewing.proofs.RenewedSteps.{gathered_more, mapped_more}
 use Rattle.renewing.proofs.renewal.renew_indices.Goals as goal
@@ -12,10 +12,10 @@ loop-place-preserved g c =
     let before = c.args.keeper.now in
     let now = c.loop-place.keeper in
     let one = c.in_ok-index.ensures in
-    let places : List Place = c.args.folder.now.places in
+    let places : List IndexPlace = c.args.folder.now.places in
     let i = c.loop-place.place-index in
     let inside : i < length places = omega (arith, ap length c.as_slice-place-items.ensures, c.loop-place-test.true) in
-    let here : c.place-item.result ≡ get_or places i c.place-item.result = c.place-item.is ∙ ap (λ (ps : List Place). get_or ps i c.place-item.result) c.as_slice-place-items.ensures in
+    let here : c.place-item.result ≡ get_or places i c.place-item.result = c.place-item.is ∙ ap (λ (ps : List IndexPlace). get_or ps i c.place-item.result) c.as_slice-place-items.ensures in
     let same : k.is_clean c.renew_index.new.keeper → k.book now ≡ k.book before =
     λ clean. c.loop-place.invariant.reads.same (one.reads.lasts.clean clean) (one.reads.lasts.was_open clean (one.served clean)) in
     record {

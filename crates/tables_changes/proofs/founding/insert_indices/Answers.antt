@@ -1,7 +1,7 @@
 use Rattle.std.proofs.Common.{List, ap₂, subst, ◌∙◌}
 use Rattle.sqlite.specs.Held.{state}
 use Rattle.texts.specs.Places.{places_in}
-use Rattle.texts.specs.declared.places.Place.{Place}
+use Rattle.texts.specs.declared.places.IndexPlace.{IndexPlace}
 use Rattle.tables.proofs.TransactionLemmas.{on_ok}
 use Rattle.tables_meaning.specs.Founding.{Continues, placed_texts, with_texts}
 use Rattle.tables_changes.proofs.founding.insert_indices.Goals as goal
@@ -12,4 +12,4 @@ returns-clause-ok g c clean inside =
     let new = state g.S.Store c.insert_placed.new.tx.conn.now in
     let are = c.as_slice.ensures ∙ c.in_ok-places.ensures ∙ ap₂ places_in c.as_slice-components.ensures c.as_slice-architectures.ensures in
     on_ok c.insert_placed.result (c.insert_placed.ensures.ok clean inside) (λ added.
-    subst (λ (ps : List Place). Continues old new (with_texts (placed_texts c.args.shelves.now c.args.position c.args.suite.now ps))) are added)
+    subst (λ (ps : List IndexPlace). Continues old new (with_texts (placed_texts c.args.shelves.now c.args.position c.args.suite.now ps))) are added)

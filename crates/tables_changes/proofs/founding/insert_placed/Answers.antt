@@ -3,7 +3,7 @@ use Rattle.std.proofs.Math.Seq.{take_all}
 use Rattle.sqlite.specs.Held.{state}
 use Rattle.sqlite.proofs.StateLemmas.{survives_then}
 use Rattle.texts.specs.Places.{place_entry}
-use Rattle.texts.specs.declared.places.Place.{Place}
+use Rattle.texts.specs.declared.places.IndexPlace.{IndexPlace}
 use Rattle.tables.proofs.TransactionLemmas.{keeps_then, on_err}
 use Rattle.tables.proofs.ReadLemmas.{survives_none}
 use Rattle.tables_meaning.specs.Founding.{Continues, from_root, placed_texts, with_path_text, with_texts}
@@ -24,9 +24,9 @@ loop-place-preserved g c =
     let old = state g.S.Store c.args.tx.now.conn.now in
     let mid = state g.S.Store c.loop-place.tx.conn.now in
     let new = state g.S.Store c.insert_index.new.tx.conn.now in
-    let all : List Place = c.args.places.now in
+    let all : List IndexPlace = c.args.places.now in
     let i = c.loop-place.place-index in
-    let x : Place = c.place-item.result in
+    let x : IndexPlace = c.place-item.result in
     let within : i < length all = omega (arith, c.loop-place-test.true) in
     record {
       reference = c.insert_index.ensures.same_reference ∙ c.loop-place.invariant.reference;
@@ -34,7 +34,7 @@ loop-place-preserved g c =
       added = λ clean inside.
           let was = c.loop-place.invariant.added (omega (arith, c.insert_index.ensures.survives.clean, clean)) inside in
           let one = c.in_ok-insert_index.ensures.ok clean was.mode in
-          let entry = λ (p : Place). from_root c.args.suite.now (place_entry c.args.shelves.now c.args.position p) in
+          let entry = λ (p : IndexPlace). from_root c.args.suite.now (place_entry c.args.shelves.now c.args.position p) in
           continues_then old mid new (with_texts (map entry (take i all))) (with_path_text (entry x)) (with_texts (map entry (take (i + 1) all)))
           (text_more all i x within c.place-item.is entry) was (continues_if_changed mid new (with_path_text (entry x)) one);
     }
@@ -58,7 +58,7 @@ pub returns-clause-ok : goal.returns-clause-ok
 returns-clause-ok g c clean inside =
     let old = state g.S.Store c.args.tx.now.conn.now in
     let new = state g.S.Store c.loop-place.tx.conn.now in
-    let all : List Place = c.args.places.now in
+    let all : List IndexPlace = c.args.places.now in
     let i = c.loop-place.place-index in
     let past : length all ≤ i = omega (arith, c.loop-place-test.false) in
     subst (λ ps. Continues old new (with_texts (placed_texts c.args.shelves.now c.args.position c.args.suite.now ps))) (take_all i all past) (c.loop-place.invariant.added clean inside)

@@ -2,12 +2,12 @@ use Rattle.std.proofs.Common.{◌≡◌, List, map, sym, ap, ◌∙◌}
 use Rattle.std.proofs.lemmas.Result.{IfOk-weaker}
 use Rattle.texts.specs.Places.{place_entry}
 use Rattle.texts.specs.Release.{index_of}
-use Rattle.texts.specs.declared.places.Place.{Place}
+use Rattle.texts.specs.declared.places.IndexPlace.{IndexPlace}
 use Rattle.texts.proofs.Walk.{indices_by_place}
 use Rattle.texts.proofs.index.listed_indices.Goals as goal
 
 pub returns : goal.returns
 returns c =
     IfOk-weaker c.indices_for.result _ _ (λ _ e. e
-    ∙ ap (λ (ps : List Place). map (λ p. index_of (place_entry c.args.shelves.now c.args.position p)) ps) (c.as_slice.ensures ∙ c.in_ok-places.ensures)
+    ∙ ap (λ (ps : List IndexPlace). map (λ p. index_of (place_entry c.args.shelves.now c.args.position p)) ps) (c.as_slice.ensures ∙ c.in_ok-places.ensures)
     ∙ sym (indices_by_place c.args.shelves.now c.args.position c.args.suite.now)) c.indices_for.ensures

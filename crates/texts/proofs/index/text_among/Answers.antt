@@ -1,13 +1,13 @@
 use Rattle.std.proofs.Common.{◌≡◌, ℕ, List, true, false, Some, map, bytes_eq, refl, sym, ap, ◌∙◌, arith}
 use Rattle.texts.specs.Places.{place_entry, place_path}
-use Rattle.texts.specs.declared.places.Place.{Place}
+use Rattle.texts.specs.declared.places.IndexPlace.{IndexPlace}
 use Rattle.texts.proofs.Found.{found_at, other_at, nothing_left}
 use Rattle.texts.proofs.index.text_among.Goals as goal
 
 pub returns-then-branch : goal.returns-then-branch
 returns-then-branch c =
     let path : List ℕ = c.args.path.now in
-    let place : Place = c.place-item.result in
+    let place : IndexPlace = c.place-item.result in
     let there : bytes_eq (place_path place) path ≡ true = sym c.in_ok-is_at.ensures ∙ c.if-branch.true in
     ap Some c.in_ok-text.ensures
     ∙ found_at path c.args.places.now c.loop-place.place-index place (omega arith) c.place-item.is (place_entry c.args.shelves.now c.args.suite) there
@@ -16,7 +16,7 @@ returns-then-branch c =
 pub loop-place-preserved : goal.loop-place-preserved
 loop-place-preserved c =
     let path : List ℕ = c.args.path.now in
-    let place : Place = c.place-item.result in
+    let place : IndexPlace = c.place-item.result in
     let elsewhere : bytes_eq (place_path place) path ≡ false = sym c.in_ok-is_at.ensures ∙ c.if-branch.false in
     other_at path c.args.places.now c.loop-place.place-index place (omega arith) c.place-item.is (place_entry c.args.shelves.now c.args.suite) elsewhere
     ∙ c.loop-place.invariant

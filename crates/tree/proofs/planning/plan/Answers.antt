@@ -4,7 +4,7 @@ use Rattle.std.proofs.lemmas.Result.{IfOk-weaker}
 use Rattle.tree.specs.Files.{pool_files}
 use Rattle.tree.specs.Planned.{planned}
 use Rattle.tree.specs.Tree.{is_new, is_other}
-use Rattle.tree.specs.declared.steps.Step.TheVariants.{Place}
+use Rattle.tree.specs.declared.steps.Step.TheVariants.{Write}
 use Rattle.tree.proofs.Plans.{whole_at_each, goes_on_at_each, found_at_each, placed_in_the_end, shown_in_the_end, gone_in_the_end, rest_at_each, needed_alone}
 use Rattle.tree.proofs.PoolFiles.{pool_agrees}
 use Rattle.tree.proofs.planning.plan.Goals as goal
@@ -13,8 +13,8 @@ use Rattle.tree.proofs.planning.plan.Goals as goal
 as_planned : (c : goal.After-in_order) → IfOk c.in_order.result (λ steps. steps.items ≡ planned (get_by_text c.args.there.now) (pool_files c.args.shelves.now) c.args.suites.now c.args.left.now)
 as_planned c =
     let there = get_by_text c.args.there.now in
-    let new = c.in_ok-new.ensures ∙ ap (λ fs. map Place (filter (is_new there) fs)) c.files_of-files.ensures in
-    let over = c.in_ok-over.ensures ∙ ap (λ fs. map Place (filter (is_other there) fs)) c.files_of-files.ensures in
+    let new = c.in_ok-new.ensures ∙ ap (λ fs. map Write (filter (is_new there) fs)) c.files_of-files.ensures in
+    let over = c.in_ok-over.ensures ∙ ap (λ fs. map Write (filter (is_other there) fs)) c.files_of-files.ensures in
     IfOk-weaker c.in_order.result _ _ (λ steps made. made ∙ (λ i. ((new i ++ over i) ++ c.in_ok-shown.ensures i) ++ c.in_ok-removed.ensures i)) c.in_order.ensures
 
 pub returns-clause-steps : goal.returns-clause-steps
