@@ -1172,11 +1172,25 @@ class Adopting(unittest.TestCase):
                 archive.faults[place] = [(status, text)]
                 self.assertEqual(self.inside("send", list_, url), (1, f"refused {line} {path.name}\n{reason}\n", ""))
             archive.requests.clear()
-            self.assertEqual(self.inside("send", list_, url, "--most", "5"), (1, "", f"adopt: {path.name} has more than 5242880 bytes{HINT}\n"))
+            refused = 1, "", f"adopt: {path.name} has more than 5242880 bytes{HINT}\n"
+            self.assertEqual(self.inside("send", list_, url, "--most", "5"), refused)
+            self.assertEqual(archive.requests, [])
+            # a server that says its configuration
+            asks = "GET", "/configuration"
+            for text, told in (
+                ("Codename: box\nMaxFileSize: 5\n", refused[2]),
+                ("Codename: box\nmaxfilesize:\n 5\n\nCodename: lab\n", "adopt: the configuration of {url}: MaxFileSize: it is no number from 4 to 1024\n"),
+                ("Codename: box\n", f"adopt: {path.name} has more than 4194304 bytes{HINT}\n"),
+            ):
+                archive.faults[asks] = [(200, text)]
+                self.assertEqual(self.inside("send", list_, url), (1, "", told.format(url=url)))
+            archive.faults[asks] = [(200, "Codename: box\nMaxFileSize: 6\n")]
+            self.assertEqual(self.inside("send", list_, url), (0, f"again {path.name}\n", ""))
+            archive.requests.clear()
             with open(path, "wb") as file:
                 file.truncate((1 << 30) + 1)
             self.assertEqual(self.inside("send", list_, url), (1, "", f"adopt: {path.name} has more than 1073741824 bytes\n"))
-            self.assertEqual(archive.requests, [])
+            self.assertEqual(archive.requests, [asks])
             server.shutdown()
 
     # ---- progress

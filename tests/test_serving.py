@@ -227,7 +227,9 @@ class Beginnings(Lines):
             under = ["strace", "-f", "-qq", "-o", os.devnull, "-e", "trace=accept4", "-e", f"inject=accept4:error={error}:when=1..2"]
             with self.subTest(error), Serving(db, 2, under=under) as serving:
                 if error in LASTING:
-                    serving.connected().close()
+                    # The program may have ended before a client can connect.
+                    with contextlib.suppress(ConnectionRefusedError):
+                        serving.connected().close()
                     self.assertEqual(serving.ended(), (3, "", "archive: cannot listen\n"))
                     continue
                 for _ in range(2):
