@@ -1,2 +1,3 @@
 pub mod Instead
+pub mod Named
 pub mod Reading

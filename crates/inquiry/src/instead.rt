@@ -1,53 +1,35 @@
 //! What came in place of what an upload lacks.
 
-ghost use Rattle.std.specs.Prelude.{◌≡◌, IfOk, filter, map};
-ghost use Rattle.inquiry.specs.Instead.{came_for, has_name, is_of, is_other, print_of};
+ghost use Rattle.std.specs.Prelude.{◌≡◌, IfOk, map};
+ghost use Rattle.inquiry.specs.Instead.{came_in, came_of, is_another};
 
-use keep::{ArrivedFile, Counting, Lack};
+use crate::named::{Delivered, deliveries_of};
+use keep::{Counting, Lack};
 use para::Listed;
 use std::alloc::{AllocError, Global};
+use std::collections::BTreeMap;
 use sums::Print;
 
-/// Whether what has arrived has the name of a lacking file.
-fn has_name(lack: &Lack, file: &ArrivedFile) -> bool
-    ensures { result ≡ has_name lack.now file.now }
+/// Whether what was delivered under the name of a lacking file has another print, and counts.
+fn is_another(counting: Counting, lack: &Lack, delivered: Delivered) -> bool
+    ensures { result ≡ is_another counting lack.now delivered }
 {
-    file.name.as_str() == lack.name.as_str()
-}
-
-/// Whether what has arrived is a lacking file, by name and print.
-fn is_of(lack: &Lack, file: &ArrivedFile) -> bool
-    ensures { result ≡ is_of lack.now file.now }
-{
-    if file.name.as_str() != lack.name.as_str() {
-        return false;
-    }
-    file.print == lack.print
-}
-
-/// Whether what has arrived has the name of a lacking file and another print, and counts.
-fn is_other(counting: Counting, lack: &Lack, file: &ArrivedFile) -> bool
-    ensures { result ≡ is_other counting lack.now file.now }
-{
-    let counts = counting.counts_since(file.moment);
-    let has_name = has_name(lack, file);
-    let is_it = is_of(lack, file);
-    counts && has_name && !is_it
+    counting.counts_since(delivered.moment) && delivered.print != lack.print
 }
 
 /// The prints of the other contents that came under the name of a lacking file and count, in the order of first deliveries.
-fn came_for(
+fn came_of(
     alloc: Global,
-    arrived: &[ArrivedFile],
+    deliveries: &[Delivered],
     counting: Counting,
     lack: &Lack,
 ) -> Result<Listed<Print>, AllocError>
-    ensures { IfOk result (λ prints. prints ≡ came_for counting arrived.now lack.now) }
+    ensures { IfOk result (λ prints. prints ≡ came_of counting deliveries.now lack.now) }
 {
     let mut prints = Vec::new(alloc);
-    for file in arrived {
-        if is_other(counting, lack, file) {
-            prints.push(file.print)?;
+    for delivered in deliveries {
+        if is_another(counting, lack, *delivered) {
+            prints.push(delivered.print)?;
         }
     }
     Ok(Listed::from_vec(prints))
@@ -57,15 +39,16 @@ fn came_for(
 /// deliveries.
 pub fn came_instead(
     alloc: Global,
-    arrived: &[ArrivedFile],
+    named: &BTreeMap<String, Vec<Delivered>>,
     counting: Counting,
     lacks: &[Lack],
 ) -> Result<Vec<Listed<Print>>, AllocError>
-    ensures { IfOk result (λ all. all.items ≡ map (came_for counting arrived.now) lacks.now) }
+    ensures { IfOk result (λ all. all.items ≡ map (came_in counting named.now) lacks.now) }
 {
     let mut all = Vec::new(alloc);
     for lack in lacks {
-        all.push(came_for(alloc, arrived, counting, lack)?)?;
+        let deliveries = deliveries_of(named, lack.name.as_str());
+        all.push(came_of(alloc, deliveries, counting, lack)?)?;
     }
     Ok(all)
 }

@@ -2,7 +2,9 @@
 #![tactic(auto)]
 
 mod instead;
+mod named;
 mod reading;
 
 pub use instead::came_instead;
+pub use named::{Delivered, by_name, deliveries_of};
 pub use reading::read_upload;
