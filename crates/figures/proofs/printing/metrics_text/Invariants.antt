@@ -1,0 +1,7 @@
+use Rattle.std.proofs.Common.{◌≡◌, string_bytes, take}
+use Rattle.std.specs.List.{flat_map}
+use Rattle.figures.specs.Printing.{family_text}
+use Rattle.figures.proofs.printing.metrics_text.Given as goal
+
+abbrev pub invariant-loop-family : goal.invariant-loop-family
+invariant-loop-family l = string_bytes l.text ≡ flat_map family_text (take l.family-index l.families)

@@ -1,0 +1,7 @@
+use Rattle.std.proofs.Common.{◌≡◌, map, take}
+use Rattle.std.specs.List.{enumerate_from}
+use Rattle.figures.specs.Families.{changed_sample}
+use Rattle.figures.proofs.shown.changed_family.Given as goal
+
+abbrev pub invariant-loop-position : goal.invariant-loop-position
+invariant-loop-position l = l.samples.items ≡ map (changed_sample l.dates) (take l.position (enumerate_from 0 l.suites))
