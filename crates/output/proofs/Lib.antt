@@ -1,3 +1,9 @@
 pub mod ListLemmas
+pub mod ZipLemmas
 pub mod NoFloats
+pub mod PlainAnswers
+pub mod AnswerLemmas
 pub mod FieldLemmas
+pub mod NameLemmas
+pub mod ItemLemmas
+pub mod NamedLemmas

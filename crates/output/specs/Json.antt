@@ -4,12 +4,14 @@ use Rattle.hex.specs.Hex.{encode_lower}
 use Rattle.serde_json.specs.Data.{Data, number, unsigned, string, array, object, member, no_members}
 use Rattle.serde_json.specs.View.{items_of}
 use Rattle.serde_json.specs.Written.{compact_text}
+use Rattle.rules.specs.Values.{ConfigValue}
 use Rattle.rules.specs.Verdicts.{number_of}
 use Rattle.suites.specs.declared.item.Item.{Item}
 use Rattle.suites.specs.declared.item.PoolFile.{PoolFile}
 use Rattle.suites.specs.declared.key.ShelfKey.{ShelfKey}
 use Rattle.keep.specs.declared.change.Judgement.{Judgement}
 use Rattle.keep.specs.declared.change.Waiting.{Waiting}
+use Rattle.output.specs.Listing.{codename_at}
 
 -- a file of the pool: its path, its SHA-256 in lower-case hexadecimal digits, and how many bytes it has
 abbrev pub file_data : PoolFile → Data
@@ -27,6 +29,16 @@ item_data item =
     (member (codes "package") (string item.«package»)
     (member (codes "source") (string item.source) (member (codes "version") (string item.version) no_members))))))
 
+-- an item with its files, and the codename of the suite that shows it
+abbrev pub shown_data : List ℕ → Item → Data
+shown_data codename item =
+    object (member (codes "architecture") (string item.architecture)
+    (member (codes "component") (string item.component)
+    (member (codes "files") (array (items_of (map file_data item.files)))
+    (member (codes "package") (string item.«package»)
+    (member (codes "source") (string item.source)
+    (member (codes "suite") (string codename) (member (codes "version") (string item.version) no_members)))))))
+
 -- an upload without a verdict: how many listed files it lacks, and its name
 abbrev pub waiting_data : Waiting → Data
 waiting_data waiting = object (member (codes "missing") (number (unsigned (length waiting.lacks))) (member (codes "upload") (string waiting.name) no_members))
@@ -39,3 +51,7 @@ judgement_data judgement =
 -- the line of what stands on a shelf
 abbrev pub json_on : ShelfKey × Item → List ℕ
 json_on entry = compact_text (item_data entry.1)
+
+-- the line of what stands on a shelf, with the codename of its suite
+abbrev pub json_in : ConfigValue → ShelfKey × Item → List ℕ
+json_in config entry = compact_text (shown_data (codename_at config entry.0.suite) entry.1)

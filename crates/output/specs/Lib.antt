@@ -1,3 +1,4 @@
 pub mod Listing
 pub mod Json
 pub mod Fields
+pub mod Explaining

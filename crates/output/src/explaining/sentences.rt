@@ -1,9 +1,16 @@
 //! Verdicts in words. The sentences are those of docs/FAULTS.md.
 
+ghost use Rattle.std.specs.Prelude.{◌≡◌};
+ghost use Rattle.std.specs.Option.{option_map};
+ghost use Rattle.output.specs.Explaining.Sentences.{meaning, remedy};
+
 use rules::Verdict;
 
 /// What a verdict means.
-pub fn meaning(verdict: Verdict) -> &'static str {
+#[tactic(auto, unfolding(crate::specs::Explaining::Sentences::meaning))]
+pub fn meaning(verdict: Verdict) -> &'static str
+    ensures { result.now ≡ meaning verdict }
+{
     match verdict {
         Verdict::Accepted => {
             "The upload's packages were given to its suite, which shows of each the greatest version."
@@ -39,13 +46,16 @@ pub fn meaning(verdict: Verdict) -> &'static str {
 }
 
 /// What to do about a verdict; nothing after an acceptance.
-pub fn remedy(verdict: Verdict) -> Option<&'static str> {
+#[tactic(auto, unfolding(crate::specs::Explaining::Sentences::remedy))]
+pub fn remedy(verdict: Verdict) -> Option<&'static str>
+    ensures { option_map (λ text. text.now) result ≡ remedy verdict }
+{
     match verdict {
         Verdict::Accepted => None,
         Verdict::Unclaimed => Some("Build for a distribution that a suite takes."),
         Verdict::ForeignArchitecture => Some("Build for the suite's architectures alone."),
         Verdict::NotAllowed => Some(
-            "Compare Changed-By (Maintainer if there is none) with the lines, byte for byte.",
+            "Let somebody upload whom a line names for this source, or add a line. The person is Changed-By (Maintainer if there is none), byte for byte.",
         ),
         Verdict::ForeignComponent => Some("Set the sections in debian/control."),
         Verdict::BadListing => Some("Make the upload by `bin/with_sidecars`."),

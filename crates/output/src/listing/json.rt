@@ -1,13 +1,16 @@
-//! What a suite shows, which uploads wait and which were judged, as JSON: an object a line.
+//! What suites show, which uploads wait and which were judged, as JSON: an object a line.
 
 ghost use Rattle.std.specs.Prelude.{◌≡◌, ◌++◌, ◌∷◌, [], cond, map, string_bytes, IfOk};
 ghost use Rattle.serde_json.specs.Data.{array};
 ghost use Rattle.serde_json.specs.View.{items_of, view};
 ghost use Rattle.serde_json.specs.Written.{compact_text};
-ghost use Rattle.output.specs.Json.{file_data, item_data, json_on, judgement_data, waiting_data};
+ghost use Rattle.std.specs.FinMap.{entries};
+ghost use Rattle.output.specs.Json.{file_data, item_data, json_in, json_on, judgement_data, shown_data, waiting_data};
 ghost use Rattle.output.specs.Listing.{shown_in};
 
+use crate::listing::shown::codename_at;
 use keep::{Judgement, Waiting};
+use rules::Config;
 use serde_json::{Value, json};
 use std::alloc::{AllocError, Global};
 use suites::{Item, PoolFile, Shelves};
@@ -81,6 +84,48 @@ pub fn shown_json(alloc: Global, shelves: &Shelves, suite: usize) -> Result<Vec<
     let mut lines = Vec::new(alloc);
     for (key, item) in shelves.items() {
         push_json_if(alloc, &mut lines, key.suite == suite, item)?;
+    }
+    Ok(lines)
+}
+
+/// The object of an item with the codename of the suite that shows it. Keys: those of an item, and `suite`.
+fn value_in(alloc: Global, codename: &str, item: &Item) -> Result<Value, AllocError>
+    ensures { IfOk result (λ value. view value ≡ shown_data codename.now item.now) }
+{
+    let files = files_value(alloc, item.files.as_slice())?;
+    let (package, version) = (item.package.as_str(), item.version.text());
+    let (architecture, component) = (item.architecture.as_str(), item.component.as_str());
+    let source = item.source.as_str();
+    json!(in alloc; {
+        "suite": codename,
+        "package": package,
+        "version": version,
+        "architecture": architecture,
+        "component": component,
+        "source": source,
+        "files": files
+    })
+}
+
+/// The object of an item with the codename of the suite that shows it as text, on one line.
+fn json_in(alloc: Global, codename: &str, item: &Item) -> Result<String, AllocError>
+    ensures { IfOk result (λ line. string_bytes line ≡ compact_text (shown_data codename.now item.now)) }
+{
+    value_in(alloc, codename, item)?.to_string(alloc)
+}
+
+/// An object for each item that a suite shows, in the order of the shelves. Keys: those of the objects of one suite, and `suite`, the
+/// codename of the suite that shows the item.
+pub fn all_json(
+    alloc: Global,
+    config: &Config,
+    shelves: &Shelves,
+) -> Result<Vec<String>, AllocError>
+    ensures { IfOk result (λ lines. map string_bytes lines.items ≡ map (json_in config.now) (entries shelves.now)) }
+{
+    let mut lines = Vec::new(alloc);
+    for (key, item) in shelves.items() {
+        lines.push(json_in(alloc, codename_at(config, key.suite), item)?)?;
     }
     Ok(lines)
 }

@@ -1,8 +1,10 @@
-//! What a suite shows, a line for each item.
+//! What suites show, a line for each item.
 
 ghost use Rattle.std.specs.Prelude.{◌≡◌, ◌++◌, ◌∷◌, [], cond, IfOk, map, string_bytes};
-ghost use Rattle.output.specs.Listing.{line_of, line_on, shown_in};
+ghost use Rattle.std.specs.FinMap.{entries};
+ghost use Rattle.output.specs.Listing.{before, codename_at, line_in, line_of, line_on, shown_in};
 
+use rules::Config;
 use std::alloc::{AllocError, Global};
 use suites::{Item, Shelves};
 
@@ -44,6 +46,41 @@ pub fn shown_lines(
     let mut lines = Vec::new(alloc);
     for (key, item) in shelves.items() {
         push_line_if(alloc, &mut lines, key.suite == suite, item)?;
+    }
+    Ok(lines)
+}
+
+/// The codename of the suite at a position in the configuration, or an empty text if there is no suite.
+#[tactic(auto, unfolding(crate::specs::Listing::codename_at))]
+pub fn codename_at(config: &Config, suite: usize) -> &str
+    ensures { result.now ≡ codename_at config.now suite }
+{
+    match config.suites().get(suite) {
+        Some(suite) => suite.codename.as_str(),
+        None => "",
+    }
+}
+
+/// The line of an item, after the codename of the suite that shows it.
+fn line_in(alloc: Global, codename: &str, item: &Item) -> Result<String, AllocError>
+    ensures { IfOk result (λ line. string_bytes line ≡ before codename.now (line_of item.now)) }
+{
+    let line = line_of(alloc, item)?;
+    format!(in alloc; "{codename} {line}")
+}
+
+/// A line for each item that a suite shows, in the order of the shelves: `CODENAME PACKAGE VERSION ARCHITECTURE COMPONENT SOURCE`. So they
+/// are in the order of the suites in the configuration.
+pub fn all_lines(
+    alloc: Global,
+    config: &Config,
+    shelves: &Shelves,
+) -> Result<Vec<String>, AllocError>
+    ensures { IfOk result (λ lines. map string_bytes lines.items ≡ map (line_in config.now) (entries shelves.now)) }
+{
+    let mut lines = Vec::new(alloc);
+    for (key, item) in shelves.items() {
+        lines.push(line_in(alloc, codename_at(config, key.suite), item)?)?;
     }
     Ok(lines)
 }
