@@ -3,7 +3,7 @@ use Rattle.std.proofs.Common.{◌≡◌, ℕ, ◌+◌, Bool, true, false, List, 
 use Rattle.std.proofs.lemmas.List.{length-append}
 use Rattle.std.proofs.lemmas.List.Elements.{filter-append}
 
-abbrev counted : Bool → ℕ → ℕ
+abbrev pub counted : Bool → ℕ → ℕ
 counted counts n = if counts then n + 1 else n
 
 module _ {X : Type 0} (test : X → Bool) where

@@ -1,86 +1,163 @@
--- The first page: what suites there are.
-use Rattle.std.specs.Prelude.{ℕ, ◌+◌, Bool, nat_lt, if◌then◌else◌, List, [], ◌∷◌, ◌++◌, length, filter, slice_get, codes, Option}
+-- The first page: what suites there are, and how a machine installs from them.
+use Rattle.std.specs.Prelude.{ℕ, ◌+◌, ◌==◌, Bool, ◌&&◌, nat_lt, if◌then◌else◌, List, [], ◌∷◌, ◌++◌, length, filter, slice_get, codes, Option}
 use Rattle.std.specs.Fmt.{decimal}
 use Rattle.std.specs.List.{flat_map}
 use Rattle.std.specs.FinMap.{entries}
 use Rattle.std.specs.Option.{option_map_or}
+use Rattle.rules.specs.Suites.{keeps_architecture}
 use Rattle.rules.specs.Values.{ConfigValue}
 use Rattle.rules.specs.declared.suite.Suite.{Suite}
+use Rattle.suites.specs.Keys.{kind_number}
 use Rattle.suites.specs.Shelves.{ShelvesValue}
+use Rattle.suites.specs.declared.key.Kind.{Kind}
+use Rattle.suites.specs.declared.key.Kind.TheVariants.{Source, Binary}
+use Rattle.suites.specs.declared.key.ShelfKey.{ShelfKey}
+use Rattle.suites.specs.declared.item.Item.{Item}
 use Rattle.texts.specs.Calendar.{latest, date_text}
-use Rattle.texts.specs.Indices.{path_in}
 use Rattle.pages.specs.Escapes.{escaped}
 use Rattle.pages.specs.Frame.{head_text, foot_text, script_text}
 use Rattle.pages.specs.Links.{link}
-use Rattle.pages.specs.SuitePage.{is_of}
-use Rattle.pages.specs.declared.index.TheConstants.{LAST_CHANGED, KEYRINGS, DEB, URL, HINT, UPLOADS_LINK}
+use Rattle.pages.specs.Sites.{page_path}
+use Rattle.pages.specs.declared.index.Key.{Key}
+use Rattle.pages.specs.declared.index.TheConstants.{KEYRINGS, URL, HINT, LINKS, SIGNED, UNKNOWN}
+use Rattle.pages.specs.declared.site.Site.{Site}
 
--- how many items the suite at a position shows
-unfoldable pub item_count : ShelvesValue → ℕ → ℕ
-item_count shelves suite = length (filter (is_of suite) (entries shelves))
+-- an item on its shelf is of the suite at a position and of a kind
+abbrev pub is_of_kind : ℕ → Kind → ShelfKey × Item → Bool
+is_of_kind suite kind a = (a.0.suite == suite) && (kind_number a.1.kind == kind_number kind)
 
--- the codename of a suite, as a link to its page
-unfoldable pub name_text : List ℕ → List ℕ
-name_text codename = codes "<h2>" ++ link [] (path_in codename (codes "index.html")) codename ++ codes "</h2>\n"
+-- how many items of a kind the suite at a position shows
+unfoldable pub item_count : ShelvesValue → ℕ → Kind → ℕ
+item_count shelves suite kind = length (filter (is_of_kind suite kind) (entries shelves))
+
+-- the other name of a suite, if it has one
+unfoldable pub other_text : Option (List ℕ) → List ℕ
+other_text other = option_map_or (λ name. codes " <span class=\"dim\">(" ++ escaped name ++ codes ")</span>") other []
+
+-- the codename of a suite, as a link to its page, and its other name
+unfoldable pub name_text : Site → List ℕ → Option (List ℕ) → List ℕ
+name_text site codename other =
+    codes "<h2>" ++ link [] (page_path site codename) codename ++ other_text other ++ codes "</h2>\n"
 
 -- what a suite is for, if the configuration says it
 unfoldable pub description_text : Option (List ℕ) → List ℕ
 description_text description = option_map_or (λ text. codes "<p>" ++ escaped text ++ codes "</p>\n") description []
 
--- the date of a moment
-unfoldable pub known_date : ℕ → List ℕ
-known_date date = LAST_CHANGED.now ++ escaped (date_text date)
-
 -- the date of a moment, unless the moment is one that no Release may have
-unfoldable pub date_part : ℕ → List ℕ
-date_part date = if nat_lt latest date then [] else known_date date
+unfoldable pub date_text_of : ℕ → List ℕ
+date_text_of date = if nat_lt latest date then escaped UNKNOWN.now else escaped (date_text date)
 
 -- the date of the suite at a position, if there is one
 unfoldable pub date_at : List ℕ → ℕ → List ℕ
-date_at dates suite = option_map_or date_part (slice_get dates suite) []
+date_at dates suite = option_map_or date_text_of (slice_get dates suite) (escaped UNKNOWN.now)
 
--- how many items the suite at a position shows, and when that last changed
-unfoldable pub state_text : ShelvesValue → List ℕ → ℕ → List ℕ
-state_text shelves dates suite =
-    codes "<p>Items: " ++ escaped (decimal (item_count shelves suite)) ++ date_at dates suite ++ codes ".</p>\n"
+-- a number, after the word for what is counted, which is a constant
+unfoldable pub count_text : List ℕ → ℕ → List ℕ
+count_text word count =
+    codes "<div><dt>" ++ word ++ codes "</dt><dd>" ++ escaped (decimal count) ++ codes "</dd></div>"
 
--- the option that says by which key the Release of a suite is signed
-unfoldable pub key_text : List ℕ → List ℕ
-key_text codename = KEYRINGS.now ++ escaped codename ++ codes ".gpg"
+-- how many packages and how many sources the suite at a position shows
+unfoldable pub counts_text : ShelvesValue → ℕ → List ℕ
+counts_text shelves suite =
+    count_text (codes "Packages") (item_count shelves suite Binary)
+    ++ count_text (codes "Sources") (item_count shelves suite Source)
 
--- the option of apt's line: by which key the Release is signed, or that it is trusted without a key
-unfoldable pub options_text : List ℕ → Bool → List ℕ
-options_text codename is_signed =
-    if is_signed then key_text codename else codes "trusted=yes"
+-- a blank and a word
+unfoldable pub word_text : List ℕ → List ℕ
+word_text word = codes " " ++ escaped word
 
--- a space and a component
-unfoldable pub component_text : List ℕ → List ℕ
-component_text component = codes " " ++ escaped component
+-- words of a suite, after the word for them, which is a constant
+unfoldable pub words_text : List ℕ → List (List ℕ) → List ℕ
+words_text name words =
+    codes "<div><dt>" ++ name ++ codes "</dt><dd>" ++ flat_map word_text words ++ codes "</dd></div>"
 
--- the line by which apt knows a suite
-unfoldable pub apt_text : List ℕ → List (List ℕ) → Bool → List ℕ
-apt_text codename components is_signed =
-    DEB.now ++ options_text codename is_signed
-    ++ URL.now ++ escaped codename
-    ++ flat_map component_text components ++ codes "</pre>\n"
+-- how much the suite at a position shows, what it keeps, and when what it shows last changed
+unfoldable pub state_text : ShelvesValue → List ℕ → ℕ → Suite → List ℕ
+state_text shelves dates position s =
+    codes "<dl>"
+    ++ counts_text shelves position
+    ++ words_text (codes "Architectures") s.architectures
+    ++ words_text (codes "Components") s.components
+    ++ codes "<div><dt>Changed</dt><dd>" ++ date_at dates position ++ codes "</dd></div></dl>\n"
+
+-- the key by which the Releases are signed: the name of its file, and whether the file lies beside the first page
+pub record KeyValue : Type 0 where
+  pub name : List ℕ
+  pub is_here : Bool
+
+abbrev pub key_value : Key → KeyValue
+key_value k = record { name = k.name.now; is_here = k.is_here }
+
+-- the name of a key's file, as a link if the file is here
+unfoldable pub key_link : KeyValue → List ℕ
+key_link k = if k.is_here then link [] k.name k.name else escaped k.name
+
+-- where a machine stores the key
+unfoldable pub known_key : KeyValue → List ℕ
+known_key k = SIGNED.now ++ key_link k ++ codes ", as <code>" ++ KEYRINGS.now ++ escaped k.name ++ codes "</code>.</p>\n"
+
+-- where a machine stores the key, if the Releases are signed
+unfoldable pub key_text : Option KeyValue → List ℕ
+key_text key = option_map_or known_key key []
+
+-- the option of apt's lines: by which key the Release is signed, or that it is trusted without a key
+unfoldable pub option_text : Option KeyValue → List ℕ
+option_text key = option_map_or (λ k. codes "signed-by=" ++ KEYRINGS.now ++ escaped k.name) key (codes "trusted=yes")
+
+-- the field of apt's paragraph that says the same
+unfoldable pub field_text : Option KeyValue → List ℕ
+field_text key = option_map_or (λ k. codes "Signed-By: " ++ KEYRINGS.now ++ escaped k.name) key (codes "Trusted: yes")
+
+-- a line by which apt knows a suite (sources.list(5)); its first word is a constant
+unfoldable pub apt_line : List ℕ → Option KeyValue → Suite → List ℕ
+apt_line kind key s =
+    kind ++ codes " [" ++ option_text key ++ codes "] " ++ URL.now
+    ++ word_text s.codename ++ flat_map word_text s.components ++ codes "\n"
+
+-- the line for the sources of a suite, if it keeps sources
+unfoldable pub source_line : Option KeyValue → Suite → List ℕ
+source_line key s = if keeps_architecture s (codes "source") then apt_line (codes "deb-src") key s else []
+
+-- the lines by which apt knows a suite
+unfoldable pub deb_lines : Option KeyValue → Suite → List ℕ
+deb_lines key s = codes "<pre>" ++ apt_line (codes "deb") key s ++ source_line key s ++ codes "</pre>\n"
+
+-- what apt fetches of a suite
+unfoldable pub types_text : Suite → List ℕ
+types_text s = if keeps_architecture s (codes "source") then codes "deb deb-src" else codes "deb"
+
+-- the paragraph by which apt knows a suite (sources.list(5), deb822-style format)
+unfoldable pub sources_text : Option KeyValue → Suite → List ℕ
+sources_text key s =
+    codes "<pre>Types: " ++ types_text s
+    ++ codes "\nURIs: " ++ URL.now
+    ++ codes "\nSuites:" ++ word_text s.codename
+    ++ codes "\nComponents:" ++ flat_map word_text s.components
+    ++ codes "\n" ++ field_text key ++ codes "\n</pre>\n"
 
 -- what is said of the suite at a position
-unfoldable pub section : ShelvesValue → List ℕ → Bool → ℕ → Suite → List ℕ
-section shelves dates is_signed position s =
-    name_text s.codename ++ description_text s.description ++ state_text shelves dates position ++ apt_text s.codename s.components is_signed
+unfoldable pub section : Site → ShelvesValue → List ℕ → Option KeyValue → ℕ → Suite → List ℕ
+section site shelves dates key position s =
+    codes "<section class=\"suite\">\n"
+    ++ name_text site s.codename s.suite
+    ++ description_text s.description
+    ++ state_text shelves dates position s
+    ++ deb_lines key s
+    ++ sources_text key s
+    ++ codes "</section>\n"
 
 -- what is said of suites, of which the first is at this position
-unfoldable pub sections_from : ShelvesValue → List ℕ → Bool → ℕ → List Suite → List ℕ
-sections_from shelves dates is_signed position [] = []
-sections_from shelves dates is_signed position (s ∷ rest) =
-    section shelves dates is_signed position s ++ sections_from shelves dates is_signed (position + 1) rest
+unfoldable pub sections_from : Site → ShelvesValue → List ℕ → Option KeyValue → ℕ → List Suite → List ℕ
+sections_from site shelves dates key position [] = []
+sections_from site shelves dates key position (s ∷ rest) =
+    section site shelves dates key position s ++ sections_from site shelves dates key (position + 1) rest
 
--- The first page: each suite, and a link to the page of uploads.
-unfoldable pub index_page : ConfigValue → ShelvesValue → List ℕ → Bool → List ℕ
-index_page config shelves dates is_signed =
-    head_text (codes "Suites")
+-- The first page: how a machine installs, and each suite.
+unfoldable pub index_page : Site → ConfigValue → ShelvesValue → List ℕ → Option KeyValue → List ℕ
+index_page site config shelves dates key =
+    head_text config (codes "Suites") LINKS.now
     ++ HINT.now
-    ++ sections_from shelves dates is_signed 0 config.suites
-    ++ UPLOADS_LINK.now
+    ++ key_text key
+    ++ sections_from site shelves dates key 0 config.suites
     ++ script_text
     ++ foot_text

@@ -1,7 +1,9 @@
 pub mod Escapes
 pub mod Frame
 pub mod Links
+pub mod Sites
 pub mod Meanings
+pub mod Sorted
 pub mod SuitePage
 pub mod IndexPage
 pub mod UploadsPage

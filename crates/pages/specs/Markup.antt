@@ -1,25 +1,32 @@
 -- What is markup in a page.
-use Rattle.std.specs.Prelude.{ℕ, Bool, List, filter, slice_get, is_some}
-use Rattle.std.specs.FinMap.{entries}
+use Rattle.std.specs.Prelude.{ℕ, Bool, false, List, filter, length, slice_get, is_some, codes}
+use Rattle.std.specs.Option.{option_map_or}
+use Rattle.para.specs.Fields.{field_named}
+use Rattle.keep.specs.declared.change.Waiting.{Waiting}
+use Rattle.rules.specs.Suites.{keeps_architecture}
+use Rattle.rules.specs.Values.{ConfigValue}
 use Rattle.rules.specs.declared.suite.Suite.{Suite}
-use Rattle.suites.specs.Shelves.{ShelvesValue}
-use Rattle.suites.specs.declared.key.ShelfKey.{ShelfKey}
 use Rattle.suites.specs.declared.item.Item.{Item}
+use Rattle.texts.specs.Stanzas.{fields_of_text}
 use Rattle.pages.specs.Escapes.{is_markup}
-use Rattle.pages.specs.SuitePage.{is_of}
 
 -- the bytes of a page that could begin or end markup, or end an attribute
 abbrev pub markup : List ℕ → List ℕ
 markup page = filter is_markup page
 
--- what the suite at a position shows, in the order of the shelves
-abbrev pub shown : ShelvesValue → ℕ → List (ShelfKey × Item)
-shown shelves suite = filter (is_of suite) (entries shelves)
+-- what decides which lines there are of an item: whether its paragraph says in one line what it is, and how many files it has
+abbrev pub item_form : Item → Bool × ℕ
+item_form a = (is_some (field_named (codes "Description") (fields_of_text a.paragraph)), length a.files)
 
--- whether an item has a file, to which its name is a link
-abbrev pub has_file : ShelfKey × Item → Bool
-has_file a = is_some (slice_get a.1.files 0)
+-- whether there is a suite at a position, and the configuration says what it is for
+abbrev pub has_description_at : ConfigValue → ℕ → Bool
+has_description_at config suite = option_map_or (λ s. is_some s.description) (slice_get config.suites suite) false
 
--- whether the configuration says what a suite is for
-abbrev pub has_description : Suite → Bool
-has_description s = is_some s.description
+-- what decides which lines there are of a suite: whether it has another name, whether the configuration says what it is for, and whether
+-- it keeps sources
+abbrev pub suite_form : Suite → Bool × Bool × Bool
+suite_form s = (is_some s.suite, is_some s.description, keeps_architecture s (codes "source"))
+
+-- how many files an upload lacks
+abbrev pub lack_count : Waiting → ℕ
+lack_count w = length w.lacks

@@ -16,6 +16,11 @@ verdict_word verdict.BadSidecar = codes "refused 7"
 verdict_word verdict.NotInPool = codes "refused 8"
 verdict_word verdict.OtherContents = codes "refused 9"
 
+-- what stands before the word of a verdict
+unfoldable pub tag : Verdict → List ℕ
+tag verdict.Accepted = codes "<span class=\"tag good\">"
+tag _ = codes "<span class=\"tag bad\">"
+
 -- what a verdict means, as markup
 unfoldable pub meaning : Verdict → List ℕ
 meaning verdict.Accepted = codes "The upload's packages were given to its suite, which shows of each the greatest version."

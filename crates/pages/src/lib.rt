@@ -6,16 +6,21 @@
 
 mod escape;
 mod frame;
+mod grouped;
 mod index;
 mod laws;
 mod link;
+mod site;
 mod suite;
+mod synopsis;
 mod table;
 mod uploads;
 mod verdict;
 
 pub use escape::{no_text_is_markup, push_text};
-pub use index::index_page;
+pub use frame::POLICY;
+pub use index::{KEY, Key, index_page};
 pub use laws::texts_leave_the_markup;
+pub use site::{MOST_ROWS, Site};
 pub use suite::suite_page;
 pub use uploads::uploads_page;

@@ -1,7 +1,7 @@
 //! Verdicts in words. The sentences are those of docs/FAULTS.md.
 
 ghost use Rattle.std.specs.Prelude.{◌≡◌};
-ghost use Rattle.pages.specs.Meanings.{verdict_word, meaning};
+ghost use Rattle.pages.specs.Meanings.{tag, verdict_word, meaning};
 
 use rules::Verdict;
 
@@ -21,6 +21,17 @@ pub fn verdict_word(verdict: Verdict) -> &'static str
         Verdict::BadSidecar => "refused 7",
         Verdict::NotInPool => "refused 8",
         Verdict::OtherContents => "refused 9",
+    }
+}
+
+/// What stands before the word of a verdict, so that the eye finds what was refused.
+#[tactic(auto, unfolding(crate::specs::Meanings::tag))]
+pub fn tag(verdict: Verdict) -> &'static str
+    ensures { result.now ≡ tag verdict }
+{
+    match verdict {
+        Verdict::Accepted => "<span class=\"tag good\">",
+        _ => "<span class=\"tag bad\">",
     }
 }
 

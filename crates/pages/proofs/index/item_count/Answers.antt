@@ -1,12 +1,11 @@
-use Rattle.std.proofs.Common.{refl, List, [], ◌∷◌, map, filter, length, sym, ap, ◌∙◌}
+use Rattle.std.proofs.Common.{refl, Bool, List, [], ◌∷◌, map, filter, length, sym, ap, ◌∙◌}
 use Rattle.std.proofs.lemmas.List.{map-append}
 use Rattle.std.specs.Map.Iter.{deref_pair}
 use Rattle.suites.specs.declared.key.ShelfKey.{ShelfKey}
 use Rattle.suites.specs.declared.item.Item.{Item}
 use Rattle.texts.proofs.Listing.{shown_more, all_shown}
-use Rattle.pages.specs.SuitePage.{is_of}
-use Rattle.pages.specs.IndexPage.{item_count}
-use Rattle.pages.proofs.Shown.{counted_more}
+use Rattle.pages.specs.IndexPage.{is_of_kind, item_count}
+use Rattle.pages.proofs.Shown.{counted, counted_more}
 use Rattle.pages.proofs.index.item_count.Goals as goal
 
 pub loop-key-init : goal.loop-key-init
@@ -17,15 +16,17 @@ loop-key-init c = record {
 
 pub loop-key-preserved : goal.loop-key-preserved
 loop-key-preserved c = record {
-  counted = counted_more (is_of c.args.suite) (map deref_pair c.loop-key.yielded) _ c.loop-key.count c.in_ok-count.count
-      c.loop-key.invariant.counted c.in_ok-count.ensures
-      ∙ ap (λ (xs : List (ShelfKey × Item)). length (filter (is_of c.args.suite) xs)) (sym (map-append deref_pair c.loop-key.yielded (_ ∷ [])));
-  rest = shown_more deref_pair c.loop-key.yielded _ _ _ _ c.in-Some.ensures.steps c.loop-key.invariant.rest;
+  counted = counted_more (is_of_kind c.args.suite c.args.kind) (map deref_pair c.loop-key.yielded) (c.in-Some.key.now, c.in-Some.item.now)
+      c.loop-key.count c.in_ok-count.count c.loop-key.invariant.counted
+      (c.in_ok-count.ensures ∙ ap (λ (counts : Bool). counted counts c.loop-key.count) c.is_of_kind.ensures)
+      ∙ ap (λ (xs : List (ShelfKey × Item)). length (filter (is_of_kind c.args.suite c.args.kind) xs))
+      (sym (map-append deref_pair c.loop-key.yielded ((c.in-Some.key, c.in-Some.item) ∷ [])));
+  rest = shown_more deref_pair c.loop-key.yielded (c.in-Some.key, c.in-Some.item) _ _ _ c.in-Some.ensures.steps c.loop-key.invariant.rest;
 }
 
 pub returns : goal.returns
 unfolding item_count
 returns c =
     c.loop-key.invariant.counted
-    ∙ ap (λ (xs : List (ShelfKey × Item)). length (filter (is_of c.args.suite) xs))
+    ∙ ap (λ (xs : List (ShelfKey × Item)). length (filter (is_of_kind c.args.suite c.args.kind) xs))
     (all_shown deref_pair c.loop-key.yielded c.loop-key.key-iterator _ c.in-None.ensures.steps.0 c.loop-key.invariant.rest)

@@ -1,11 +1,11 @@
 use Rattle.std.proofs.Common.{◌≡◌, ◌++◌, map, filter, length}
 use Rattle.std.specs.FinMap.{entries}
 use Rattle.std.specs.Map.Iter.{deref_pair}
-use Rattle.pages.specs.SuitePage.{is_of}
+use Rattle.pages.specs.IndexPage.{is_of_kind}
 use Rattle.pages.proofs.index.item_count.Given as goal
 
 abbrev pub invariant-loop-key : goal.invariant-loop-key
 invariant-loop-key l = record {
-  counted : l.count ≡ length (filter (is_of l.suite) (map deref_pair l.yielded));
+  counted : l.count ≡ length (filter (is_of_kind l.suite l.kind) (map deref_pair l.yielded));
   rest : map deref_pair l.yielded ++ l.key-iterator ≡ entries l.shelves;
 }

@@ -1,0 +1,13 @@
+use Rattle.std.proofs.Common.{map, ap, sym, ◌∙◌, rules}
+use Rattle.std.proofs.lemmas.Cmp.{on_total}
+use Rattle.pages.specs.SuitePage.{row_order}
+use Rattle.pages.proofs.RowOrders.{row_order_total}
+use Rattle.pages.proofs.Sorting.{sorted_by-map, sorted_same}
+use Rattle.pages.proofs.grouped.in_row_order.Goals as goal
+
+pub returns : goal.returns
+returns c =
+    ap (map (λ i. i.now))
+    (sorted_same (λ a b. row_order a.now b.now) (on_total (λ i. i.now) row_order_total) c.args.items.items c.sort_by.new.self.items c.in_ok-sort_by.ensures.sorted c.sort_by.ensures.stable
+    (λ a r q k. search rules))
+    ∙ sym (sorted_by-map row_order (λ i. i.now) c.args.items.items)
