@@ -1,0 +1,4 @@
+pub mod Course
+pub mod Told
+pub mod Why
+pub mod Whole
