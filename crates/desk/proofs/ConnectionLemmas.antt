@@ -18,10 +18,12 @@ use Rattle.history.proofs.Reopening.{opens_itself}
 use Rattle.history.proofs.Runs.{IsFaithful-front, IsFaithful-rest, IsRun-append}
 use Rattle.texts.proofs.Pairs.{pairs_append, pairs_none}
 use Rattle.desk.specs.Calls.{call_wanted}
-use Rattle.desk.specs.Connections.{Visit, visit, visits, AllWent, AreServed, HasServed, IsByLimit, IsLeftAmong, IsLeftIn, IsServed, IsAt, IsNoLater, NeverFall, behind, calls_in, calls_of_course, outcomes_in, outcomes_of_course}
-use Rattle.desk.specs.Exchange.{Course, Silent, TurnedAway, TooLong, Short, Broken, Called, Leaves, LeavesCourse}
+use Rattle.desk.specs.Connections.{Visit, visit, visits, AllWent, AreServed, AreToldOf, HasServed, IsByLimit, IsLeftAmong, IsLeftIn, IsServed, IsToldOf, IsAt, IsNoLater, NeverFall, behind, calls_in, calls_of_course, outcomes_in, outcomes_of_course}
+use Rattle.desk.specs.Exchange.{Course, Silent, TurnedAway, TooLong, Short, Broken, Called, Told, Leaves, LeavesCourse}
 use Rattle.desk.specs.Want.{Want}
+use Rattle.telling.specs.Told.{IsTold}
 use Rattle.desk.specs.declared.connection.Connection.{Connection}
+use Rattle.desk.specs.declared.routes.Rules.{Rules}
 
 -- courses of connections, and of others after them
 AllWent-append : (vs : List Visit) (courses : List Course) (ws : List Visit) (others : List Course) → AllWent vs courses → AllWent ws others → AllWent (vs ++ ws) (courses ++ others)
@@ -30,11 +32,11 @@ AllWent-append (v ∷ vs) (course ∷ courses) ws others (first, all) more = (fi
 AllWent-append [] (course ∷ courses) ws others all more = absurd all
 AllWent-append (v ∷ vs) [] ws others all more = absurd all
 
-module _ {R W : Type 0} (remaining : R → Option (List ℕ)) (contents : W → Option (List ℕ)) where
+module _ (desk_rules : Rules) {R W : Type 0} (remaining : R → Option (List ℕ)) (contents : W → Option (List ℕ)) where
   pub visits-snoc : (olds news : List (Connection R W)) (old new : Connection R W) → length olds ≡ length news
-      → visits remaining contents (olds ++ old ∷ []) (news ++ new ∷ []) ≡ visits remaining contents olds news ++ visit remaining contents old new ∷ []
+      → visits desk_rules remaining contents (olds ++ old ∷ []) (news ++ new ∷ []) ≡ visits desk_rules remaining contents olds news ++ visit desk_rules remaining contents old new ∷ []
   visits-snoc [] [] old new same = refl
-  visits-snoc (o ∷ os) (n ∷ ns) old new same = ap (λ vs. visit remaining contents o n ∷ vs) (visits-snoc os ns old new (omega (arith, same)))
+  visits-snoc (o ∷ os) (n ∷ ns) old new same = ap (λ vs. visit desk_rules remaining contents o n ∷ vs) (visits-snoc os ns old new (omega (arith, same)))
   visits-snoc [] (n ∷ ns) old new same = absurd (omega (arith, same))
   visits-snoc (o ∷ os) [] old new same = absurd (omega (arith, same))
 
@@ -46,6 +48,7 @@ module _ {K : Type 0} (g : Ghosts K) where
   at_of moment before after Short leaves = tt
   at_of moment before after Broken leaves = tt
   at_of moment before after (Called want body at outcome) leaves = leaves.0
+  at_of moment before after (Told question at told) leaves = leaves.0
 
   limit_of : (moment : ℕ) (before after : K) (course : Course) → Leaves g moment before after course → IsByLimit (g.book before).config course
   limit_of moment before after Silent leaves = tt
@@ -54,10 +57,16 @@ module _ {K : Type 0} (g : Ghosts K) where
   limit_of moment before after Short leaves = tt
   limit_of moment before after Broken leaves = tt
   limit_of moment before after (Called want body at outcome) leaves = leaves.1
+  limit_of moment before after (Told question at told) leaves = tt
 
   -- if nothing happened, what was kept is kept
   still_kept : (h : History) (before after : K) → after ≡ before → IsKept (g.is_open before) (g.book before) h → IsKept (g.is_open after) (g.book after) h
   still_kept h before after same kept = subst (λ (k : K). IsKept (g.is_open k) (g.book k) h) (sym same) kept
+
+  -- what was kept is kept after a read
+  read_kept : (h : History) (before after : K) → Reads g before after → IsKept (g.is_open before) (g.book before) h → g.is_clean after → IsKept (g.is_open after) (g.book after) h
+  read_kept h before after reads kept clean =
+      record { config = reads.lasts.config ∙ kept.config; stands = λ up. reads.same clean up ∙ kept.stands (reads.lasts.was_open clean up) }
 
   -- what the one connection asked is a run
   one_run : (h : History) (moment : ℕ) (before after : K) (course : Course) → Leaves g moment before after course → IsKept (g.is_open before) (g.book before) h
@@ -71,9 +80,38 @@ module _ {K : Type 0} (g : Ghosts K) where
       let does = subst (λ (m : ℕ). Does g before (call_wanted want body m) outcome after) (sym at_is) done in
       let step = does h kept faithful clean in
       (step.answered, step.kept)
+  one_run h moment before after (Told question at told) (at_is, asked) kept faithful clean = read_kept h before after asked.reads kept clean
+
+  -- the answer of a question on the book of the history
+  one_told : (h : History) (moment : ℕ) (before after : K) (course : Course) → Leaves g moment before after course → IsKept (g.is_open before) (g.book before) h
+      → g.is_clean after → g.is_open after → IsToldOf g.may_fail h course
+  one_told h moment before after Silent leaves kept clean up = tt
+  one_told h moment before after (TurnedAway e) leaves kept clean up = tt
+  one_told h moment before after (TooLong want) leaves kept clean up = tt
+  one_told h moment before after Short leaves kept clean up = tt
+  one_told h moment before after Broken leaves kept clean up = tt
+  one_told h moment before after (Called want body at outcome) leaves kept clean up = tt
+  one_told h moment before after (Told question at told) (at_is, asked) kept clean up =
+      let book = kept.stands (asked.reads.lasts.was_open clean up) in
+      subst (λ (b : Book). IsTold g.may_fail b question at told) book (subst (λ (m : ℕ). IsTold g.may_fail (g.book before) question m told) (sym at_is) (asked.is clean))
+
+  -- the answers of connections, and of others after them
+  told-append : (h : History) (courses others : List Course) (mid after : K) → AreToldOf g.may_fail h courses
+      → IsRun g.may_fail h (calls_in courses) (outcomes_in courses) (g.is_open mid) (g.book mid)
+      → ((later : History) → IsKept (g.is_open mid) (g.book mid) later → IsFaithful later (calls_in others) → AreToldOf g.may_fail later others)
+      → IsFaithful h (calls_in courses ++ calls_in others) → AreToldOf g.may_fail h (courses ++ others)
+  told-append h [] others mid after told kept more faithful = more h kept faithful
+  told-append h (Called want body at outcome ∷ courses) others mid after (one, told) (answered, run) more faithful =
+      (one, told-append (followed h (call_wanted want body at) outcome) courses others mid after told run more (IsFaithful-rest h (call_wanted want body at) outcome (calls_in courses ++ calls_in others) faithful))
+  told-append h (Silent ∷ courses) others mid after (one, told) run more faithful = (one, told-append h courses others mid after told run more faithful)
+  told-append h (TurnedAway e ∷ courses) others mid after (one, told) run more faithful = (one, told-append h courses others mid after told run more faithful)
+  told-append h (TooLong want ∷ courses) others mid after (one, told) run more faithful = (one, told-append h courses others mid after told run more faithful)
+  told-append h (Short ∷ courses) others mid after (one, told) run more faithful = (one, told-append h courses others mid after told run more faithful)
+  told-append h (Broken ∷ courses) others mid after (one, told) run more faithful = (one, told-append h courses others mid after told run more faithful)
+  told-append h (Told question at words ∷ courses) others mid after (one, told) run more faithful = (one, told-append h courses others mid after told run more faithful)
 
   -- what a crash leaves of the one connection
-  one_crash : (h : History) (v : Visit) (before after : K) (course : Course) → Leaves g v.moment before after course → LeavesCourse g v.gave v.gives v.moment before after course
+  one_crash : (h : History) (v : Visit) (before after : K) (course : Course) → Leaves g v.moment before after course → LeavesCourse v.rules g v.gave v.gives v.moment before after course
       → IsKept (g.is_open before) (g.book before) h → IsFaithful h (calls_in (course ∷ [])) → g.is_clean after → (left : Option Book) → g.may_leave after left
       → g.may_leave before left ⊎ ((left ≡ Some (book_of h)) ⊎ IsLeftIn h v course left)
   one_crash h v before after Silent leaves crash kept faithful clean left may = crash h kept faithful clean left may
@@ -81,11 +119,12 @@ module _ {K : Type 0} (g : Ghosts K) where
   one_crash h v before after (TooLong want) leaves crash kept faithful clean left may = crash h kept faithful clean left may
   one_crash h v before after Short leaves crash kept faithful clean left may = crash h kept faithful clean left may
   one_crash h v before after Broken leaves crash kept faithful clean left may = crash h kept faithful clean left may
+  one_crash h v before after (Told question at told) leaves crash kept faithful clean left may = crash h kept faithful clean left may
   one_crash h v before after (Called want body at outcome) leaves crash kept faithful clean left may =
       subst (λ (m : ℕ). IsFaithful h (call_wanted want body m ∷ []) → g.may_leave before left ⊎ ((left ≡ Some (book_of h)) ⊎ IsLeftIn h v (Called want body m outcome) left)) (sym leaves.0)
       (called_crash h v before after want body outcome crash kept clean left may) faithful
     where
-      called_crash : (h : History) (v : Visit) (before after : K) (want : Want) (body : List ℕ) (outcome : Result Reply Fault) → LeavesCourse g v.gave v.gives v.moment before after (Called want body v.moment outcome)
+      called_crash : (h : History) (v : Visit) (before after : K) (want : Want) (body : List ℕ) (outcome : Result Reply Fault) → LeavesCourse v.rules g v.gave v.gives v.moment before after (Called want body v.moment outcome)
           → IsKept (g.is_open before) (g.book before) h → g.is_clean after → (left : Option Book) → g.may_leave after left → IsFaithful h (call_wanted want body v.moment ∷ [])
           → g.may_leave before left ⊎ ((left ≡ Some (book_of h)) ⊎ IsLeftIn h v (Called want body v.moment outcome) left)
       called_crash h v before after want body (Ok reply) crash kept clean left may faithful = crash h kept faithful clean left may
@@ -131,6 +170,8 @@ module _ {K : Type 0} (g : Ghosts K) where
       elim (among_behind h vs ws courses others left mid P went run leaves faithful) [ inl p ↦ inl p | inr is ↦ inr (inr (inr is)) ]
   among_behind h (v ∷ vs) ws (Broken ∷ courses) others left mid P (first, went) run leaves faithful =
       elim (among_behind h vs ws courses others left mid P went run leaves faithful) [ inl p ↦ inl p | inr is ↦ inr (inr (inr is)) ]
+  among_behind h (v ∷ vs) ws (Told question at told ∷ courses) others left mid P (first, went) run leaves faithful =
+      elim (among_behind h vs ws courses others left mid P went run leaves faithful) [ inl p ↦ inl p | inr is ↦ inr (inr (inr is)) ]
   among_behind h [] ws (course ∷ courses) others left mid P went run leaves faithful = absurd went
   among_behind h (v ∷ vs) ws [] others left mid P went run leaves faithful = absurd went
 
@@ -144,6 +185,7 @@ module _ {K : Type 0} (g : Ghosts K) where
         config = lasts.config;
         limit = All-cons (IsByLimit (g.book before).config) course [] (limit_of v.moment before after course answered.leaves) (All-nil (IsByLimit (g.book before).config));
         run = λ h kept faithful clean. one_run h v.moment before after course answered.leaves kept faithful clean;
+        told = λ h kept faithful clean up. (one_told h v.moment before after course answered.leaves kept clean up, tt);
         crash = λ h kept faithful clean left may. elim (one_crash h v before after course answered.leaves answered.crash kept faithful clean left may) [
           | inl was ↦ inl was
           | inr made ↦ inr (elim made [ inl same ↦ inl same | inr whole ↦ inr (inl whole) ])
@@ -158,13 +200,15 @@ module _ {K : Type 0} (g : Ghosts K) where
     config = reads.lasts.config;
     limit = All-nil (IsByLimit (g.book before).config);
     crash = λ h kept faithful clean left may. inl (reads.crash clean left may);
-    run = λ h kept faithful clean. record { config = reads.lasts.config ∙ kept.config; stands = λ up. reads.same clean up ∙ kept.stands (reads.lasts.was_open clean up) };
+    run = λ h kept faithful clean. read_kept h before after reads kept clean;
+    told = λ h kept faithful clean up. tt;
   }
 
   -- connections were answered, and others after them
-  pub served_joined : (before mid after : K) (vs ws : List Visit) → (g.is_clean after → g.is_clean mid) → AreServed g before mid vs → AreServed g mid after ws
+  pub served_joined : (before mid after : K) (vs ws : List Visit) → Lasts g mid after → AreServed g before mid vs → AreServed g mid after ws
       → AreServed g before after (vs ++ ws)
-  served_joined before mid after vs ws clean_before first rest =
+  served_joined before mid after vs ws lasts first rest =
+      let clean_before = lasts.clean in
       let cs = first.courses in
       let ds = rest.courses in
       let calls : calls_in (cs ++ ds) ≡ calls_in cs ++ calls_in ds = flat_map-append calls_of_course cs ds in
@@ -180,6 +224,11 @@ module _ {K : Type 0} (g : Ghosts K) where
             subst (λ (xs : List Call). IsRun g.may_fail h xs (outcomes_in (cs ++ ds)) (g.is_open after) (g.book after)) (sym calls)
             (subst (λ (os : List (Result Reply Fault)). IsRun g.may_fail h (calls_in cs ++ calls_in ds) os (g.is_open after) (g.book after)) (sym outcomes)
             (IsRun-append g h (calls_in cs) (calls_in ds) (outcomes_in cs) (outcomes_in ds) mid after run (λ later stays holds. rest.run later stays holds clean) parts));
+        told = λ h kept faithful clean up.
+            let parts = subst (λ (xs : List Call). IsFaithful h xs) calls faithful in
+            let front = IsFaithful-front h (calls_in cs) (calls_in ds) parts in
+            told-append h cs ds mid after (first.told h kept front (clean_before clean) (lasts.was_open clean up)) (first.run h kept front (clean_before clean))
+            (λ later stays holds. rest.told later stays holds clean up) parts;
         crash = λ h kept faithful clean left may.
             let parts = subst (λ (xs : List Call). IsFaithful h xs) calls faithful in
             let front = IsFaithful-front h (calls_in cs) (calls_in ds) parts in
@@ -214,7 +263,7 @@ module _ {K : Type 0} (g : Ghosts K) where
     fit = turn.fit;
     rise = turn.rise;
     lasts = lasts_more turn.lasts reads.lasts;
-    served = subst (AreServed g before after) (append-nil turn.visits) (served_joined before mid after turn.visits [] reads.lasts.clean turn.served (served_none mid after reads));
+    served = subst (AreServed g before after) (append-nil turn.visits) (served_joined before mid after turn.visits [] reads.lasts turn.served (served_none mid after reads));
   }
 
   -- others after the first, at no earlier moment, all of which are as this says
@@ -227,5 +276,5 @@ module _ {K : Type 0} (g : Ghosts K) where
     rise = pairs_append IsNoLater first.visits others.visits first.rise others.rise
         (λ v w here there. later v w (All-contains One first.visits v first.fit here) (All-contains Other others.visits w others.fit there));
     lasts = lasts_more first.lasts others.lasts;
-    served = served_joined before mid after first.visits others.visits others.lasts.clean first.served others.served;
+    served = served_joined before mid after first.visits others.visits others.lasts first.served others.served;
   }

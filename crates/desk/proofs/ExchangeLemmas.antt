@@ -1,6 +1,6 @@
 -- From what was read and what the archive answered to the reply.
 use Rattle.std.proofs.Common.{◌≡◌, ◌≤◌, ◌<◌, ◌++◌, ◌∙◌, ℕ, List, [], ◌∷◌, Option, None, Some, Result, Ok, Err, IfOk, OnErr, Bool, true, false, length, replicate, refl, sym, ap, subst, inl, inr, arith, length-append}
-use Rattle.std.specs.Prelude.{MatchResult, ⊤, ◌||◌, nat_le, nat_lt}
+use Rattle.std.specs.Prelude.{MatchResult, ⊤, cond, ◌||◌, nat_le, nat_lt}
 use Rattle.std.specs.Io.KnownBytes.{Consumes}
 use Rattle.std.proofs.KnownBytes.{Consumes-kept, Consumes-nil}
 use Rattle.std.proofs.lemmas.Bool.{ltb-false, ltb-true}
@@ -12,7 +12,7 @@ use Rattle.queue.specs.Archives.{book_of}
 use Rattle.queue.specs.Commands.{is_new, stored}
 use Rattle.queue.specs.Histories.{Call, Delivery, History, Reply as Answered, Stored, followed}
 use Rattle.queue.specs.Receiving.{Gave, IsAsBefore, IsReceived, IsRefusedFor, LeavesReceived}
-use Rattle.queue.specs.Steps.{Does, IsServed, LeavesCall}
+use Rattle.queue.specs.Steps.{Does, IsServed, LeavesCall, Reads}
 use Rattle.history.specs.Deliveries.{delivery_fault, most_named}
 use Rattle.history.specs.declared.command.Arrived.{Arrived}
 use Rattle.history.specs.declared.fault.Fault.{Fault}
@@ -21,20 +21,23 @@ use Rattle.queue.specs.declared.reading.ReaderFailed.{ReaderFailed}
 use Rattle.history.proofs.Limits.{named_least}
 use Rattle.history.proofs.Received.{refused_does}
 use Rattle.desk.specs.Answer.{refusal_message}
-use Rattle.desk.specs.Calls.{call_wanted, done_message, fault_message, reception_message}
-use Rattle.desk.specs.Exchange.{Course, HasReadBehind, IsCalled, IsCarriedOut, IsHandledWith, IsLeftBehind, IsLeftBy, KeepsLimit, Leaves, LeavesBehind, LeavesCourse, LeavesOr, MayHaveCome, Silent, TurnedAway, TooLong, Short, Broken, Called, reply_of}
+use Rattle.desk.specs.Calls.{call_wanted, done_message, fault_message, is_call, outcome_message, reception_message, told_message}
+use Rattle.desk.specs.Exchange.{Course, HasReadBehind, IsCalled, IsCarriedOut, IsHandledWith, IsLeftBehind, IsLeftBy, KeepsLimit, Leaves, LeavesBehind, LeavesCourse, LeavesOr, MayHaveCome, Silent, TurnedAway, TooLong, Short, Broken, Called, Told, reply_of}
 use Rattle.desk.specs.Incoming.{HasHead, IsRefused, ReadsBeginning, ReadsUpTo}
 use Rattle.desk.specs.Message.{message_of}
 use Rattle.desk.specs.Reply.{Message}
 use Rattle.desk.specs.Request.{Received, body_length, refused}
-use Rattle.desk.specs.Want.{Want, may_ask, delivery, queue_run, copying, fetching, waiting_list, cleaning, verdict_list, removing, promoting}
+use Rattle.desk.specs.Want.{Want, asking, may_ask, delivery, queue_run, copying, fetching, waiting_list, cleaning, verdict_list, removing, promoting}
 use Rattle.desk.specs.declared.head.Refusal.{Refusal}
-use Rattle.desk.specs.declared.head.Refusal.TheVariants.{BadRequest, NotFound, MethodNotAllowed, LengthRequired, PayloadTooLarge, HeadTooLarge, NotImplemented, OutOfMemory}
+use Rattle.desk.specs.declared.head.Refusal.TheVariants.{BadRequest, NotFound, MethodNotAllowed, Forbidden, LengthRequired, PayloadTooLarge, HeadTooLarge, NotImplemented, OutOfMemory}
 use Rattle.desk.specs.declared.reply.Reply.{Reply}
 use Rattle.desk.proofs.RequestLemmas.{read_behind, reads_behind, received_whole}
 use Rattle.rules.specs.Values.{ConfigValue}
+use Rattle.telling.specs.Told.{Asking, IsTold}
+use Rattle.telling.specs.declared.fault.TellFault.{TellFault}
 use Rattle.sums.specs.FileNames.{is_file_name}
 use Rattle.sums.specs.Lines.{most_size}
+use Rattle.desk.specs.declared.routes.Rules.{Rules}
 
 none_within : (n most : ℕ) → n ≡ 0 → n ≤ most
 none_within n most none = omega (arith, none)
@@ -50,6 +53,7 @@ keeps_limit config cleaning none = tt
 keeps_limit config verdict_list none = tt
 keeps_limit config (removing a b) none = tt
 keeps_limit config (promoting a b) none = tt
+keeps_limit config (asking question) none = tt
 
 -- a number is within a limit if it can not be above it
 pub within_limit : (most n : ℕ) → (most < n → ⊥) → n ≤ most
@@ -105,6 +109,7 @@ come_before old mid front Broken read may = unknown_before old mid front read ma
 come_before old mid front (TurnedAway BadRequest) read may = unknown_before old mid front read may
 come_before old mid front (TurnedAway NotFound) read may = absurd may
 come_before old mid front (TurnedAway (MethodNotAllowed m)) read may = absurd may
+come_before old mid front (TurnedAway Forbidden) read may = absurd may
 come_before old mid front (TurnedAway LengthRequired) read may = absurd may
 come_before old mid front (TurnedAway PayloadTooLarge) read may = absurd may
 come_before old mid front (TurnedAway HeadTooLarge) read may = absurd may
@@ -113,6 +118,7 @@ come_before old mid front (TurnedAway OutOfMemory) read may = absurd may
 come_before old mid front (TooLong want) read may = unknown_before old mid front read may
 come_before old mid front Silent read may = absurd may
 come_before old mid front (Called want body at outcome) read may = absurd may
+come_before old mid front (Told question at told) read may = absurd may
 
 -- a reader that gave `n` bytes, and fewer as well, has unknown bytes
 unknown_of : (old new : Option (List ℕ)) (n : ℕ) (body front : List ℕ) → Consumes old new body → length body ≡ n → Consumes old new front → length front < n → old ≡ None
@@ -123,7 +129,7 @@ unknown_of (Some xs) (Some ys) n body front one size other short =
     absurd (omega (arith, sizes, size, short, length-append body ys, length-append front ys))
 
 -- what was left by a body after a head was left by the whole
-left_by : (h : History) (old mid new : Option (List ℕ)) (want : Want) (moment : ℕ) (left : Option Book) → HasHead old mid want → IsLeftBehind h mid new want moment left → IsLeftBy h old new want moment left
+left_by : {desk_rules : Rules} (h : History) (old mid new : Option (List ℕ)) (want : Want) (moment : ℕ) (left : Option Book) → HasHead desk_rules old mid want → IsLeftBehind h mid new want moment left → IsLeftBy desk_rules h old new want moment left
 left_by h old mid new want moment left head it = record {
   body = it.body;
   read = received_whole old mid new head.head it.body want head.read head.first head.asked it.read it.size;
@@ -142,23 +148,24 @@ module _ {K : Type 0} (g : Ghosts K) where
     | inr made ↦ inr (elim made [ inl same ↦ inl same | inr one ↦ inr (more h left one) ])
   ]
 
-  module _ (old mid new : Option (List ℕ)) (before after : K) (want : Want) (moment : ℕ) (head : HasHead old mid want) where
+  module _ {desk_rules : Rules} (old mid new : Option (List ℕ)) (before after : K) (want : Want) (moment : ℕ) (head : HasHead desk_rules old mid want) where
     none_told : (course : Course) → LeavesOr g before after [] (λ h left. MayHaveCome mid course × IsLeftBehind h mid new want moment left)
-        → LeavesOr g before after [] (λ h left. MayHaveCome old course × ((want : Want) × IsLeftBy h old new want moment left))
-    none_told course leaves = leaves_more before after [] (λ h left. MayHaveCome mid course × IsLeftBehind h mid new want moment left) (λ h left. MayHaveCome old course × ((want : Want) × IsLeftBy h old new want moment left))
+        → LeavesOr g before after [] (λ h left. MayHaveCome old course × ((want : Want) × IsLeftBy desk_rules h old new want moment left))
+    none_told course leaves = leaves_more before after [] (λ h left. MayHaveCome mid course × IsLeftBehind h mid new want moment left) (λ h left. MayHaveCome old course × ((want : Want) × IsLeftBy desk_rules h old new want moment left))
         (λ h left one. (come_before old mid head.head course head.read one.0, (want, left_by h old mid new want moment left head one.1))) leaves
 
     -- what a crash leaves after a head it leaves of the whole
-    pub crash_behind : (course : Course) → HasReadBehind mid new want course → LeavesBehind g mid new want moment before after course → LeavesCourse g old new moment before after course
+    pub crash_behind : (course : Course) → HasReadBehind mid new want course → LeavesBehind g mid new want moment before after course → LeavesCourse desk_rules g old new moment before after course
     crash_behind Silent read leaves = none_told Silent leaves
     crash_behind (TurnedAway e) read leaves = none_told (TurnedAway e) leaves
     crash_behind (TooLong other) read leaves = none_told (TooLong other) leaves
     crash_behind Short read leaves = none_told Short leaves
     crash_behind Broken read leaves = none_told Broken leaves
+    crash_behind (Told question at told) read leaves = none_told (Told question at told) leaves
     crash_behind (Called other body at (Ok reply)) read leaves = leaves
     crash_behind (Called other body at (Err fault)) read leaves =
-        leaves_more before after (call_wanted other body moment ∷ []) (λ h left. IsLeftBehind h mid new other moment left) (λ h left. IsLeftBy h old new other moment left)
-        (λ h left one. left_by h old mid new other moment left (subst (λ (w : Want). HasHead old mid w) (sym read.0) head) one) leaves
+        leaves_more before after (call_wanted other body moment ∷ []) (λ h left. IsLeftBehind h mid new other moment left) (λ h left. IsLeftBy desk_rules h old new other moment left)
+        (λ h left one. left_by h old mid new other moment left (subst (λ (w : Want). HasHead desk_rules old mid w) (sym read.0) head) one) leaves
 
   -- what a crash leaves of a call that was done, if the keeper is open after it
   done_leaves : (before after : K) (call : Call) (reply : Answered) → ((k : K) (left : Option Book) → g.is_clean k → g.is_open k → g.may_leave k left → left ≡ Some (g.book k))
@@ -180,25 +187,26 @@ module _ {K : Type 0} (g : Ghosts K) where
     ])
   ]
 
-  turned_away : (old new : Option (List ℕ)) (before : K) (moment : ℕ) (e : Refusal) (m : Message) → Received old new (refused e) → m ≡ refusal_message e
-      → IsHandledWith g old new before before moment m
+  turned_away : {desk_rules : Rules} (old new : Option (List ℕ)) (before : K) (moment : ℕ) (e : Refusal) (m : Message) → Received desk_rules old new (refused e) → m ≡ refusal_message e
+      → IsHandledWith desk_rules g old new before before moment m
   turned_away old new before moment e m h is = record { course = TurnedAway e; read = h; leaves = λ past kept clean. kept; crash = λ past kept faithful clean left may. inl may; reply = ap Some (sym is) }
 
   -- what is refused before the archive heard of it
-  pub handled_refused : (old new : Option (List ℕ)) (before : K) (moment : ℕ) (e : Refusal) (m : Message) → IsRefused old new e → m ≡ refusal_message e
-      → IsHandledWith g old new before before moment m
+  pub handled_refused : {desk_rules : Rules} (old new : Option (List ℕ)) (before : K) (moment : ℕ) (e : Refusal) (m : Message) → IsRefused desk_rules old new e → m ≡ refusal_message e
+      → IsHandledWith desk_rules g old new before before moment m
   handled_refused old new before moment OutOfMemory m h is = record { course = Short; read = h; leaves = λ past kept clean. kept; crash = λ past kept faithful clean left may. inl may; reply = ap Some (sym is) }
   handled_refused old new before moment BadRequest m h is = turned_away old new before moment BadRequest m h is
   handled_refused old new before moment NotFound m h is = turned_away old new before moment NotFound m h is
   handled_refused old new before moment (MethodNotAllowed a) m h is = turned_away old new before moment (MethodNotAllowed a) m h is
+  handled_refused old new before moment Forbidden m h is = turned_away old new before moment Forbidden m h is
   handled_refused old new before moment LengthRequired m h is = turned_away old new before moment LengthRequired m h is
   handled_refused old new before moment PayloadTooLarge m h is = turned_away old new before moment PayloadTooLarge m h is
   handled_refused old new before moment HeadTooLarge m h is = turned_away old new before moment HeadTooLarge m h is
   handled_refused old new before moment NotImplemented m h is = turned_away old new before moment NotImplemented m h is
 
   -- what a head asked for that was carried out
-  pub handled_asked : (old mid new : Option (List ℕ)) (before after : K) (want : Want) (moment : ℕ) (m : Message) → HasHead old mid want
-      → IsCarriedOut g mid new before after want moment (Some m) → IsHandledWith g old new before after moment m
+  pub handled_asked : {desk_rules : Rules} (old mid new : Option (List ℕ)) (before after : K) (want : Want) (moment : ℕ) (m : Message) → HasHead desk_rules old mid want
+      → IsCarriedOut g mid new before after want moment (Some m) → IsHandledWith desk_rules g old new before after moment m
   handled_asked old mid new before after want moment m head carried = record {
     course = carried.course;
     read = read_behind old mid new want carried.course head carried.read;
@@ -208,21 +216,32 @@ module _ {K : Type 0} (g : Ghosts K) where
   }
 
   -- a reader that failed after a head
-  pub broken_behind : (old mid new : Option (List ℕ)) (before after : K) (want : Want) (moment : ℕ) → HasHead old mid want
+  pub broken_behind : {desk_rules : Rules} (old mid new : Option (List ℕ)) (before after : K) (want : Want) (moment : ℕ) → HasHead desk_rules old mid want
       → ReadsUpTo mid new (body_length want) × IsAsBefore g before after × LeavesBehind g mid new want moment before after Broken
-      → ReadsBeginning old new × IsAsBefore g before after × LeavesCourse g old new moment before after Broken
+      → ReadsBeginning desk_rules old new × IsAsBefore g before after × LeavesCourse desk_rules g old new moment before after Broken
   broken_behind old mid new before after want moment head cut =
       (reads_behind old mid new head.head want head.read head.first head.asked cut.0, cut.1, none_told old mid new before after want moment head Broken cut.2)
 
   -- a call that has no body after its head
-  pub without_body : (old : Option (List ℕ)) (before after : K) (want : Want) (moment : ℕ) (m : Message) → body_length want ≡ 0 → IsCalled g before after want [] moment m
+  pub without_body : (old : Option (List ℕ)) (before after : K) (want : Want) (moment : ℕ) (m : Message) → body_length want ≡ 0 → is_call want ≡ true → IsCalled g before after want [] moment m
       → IsCarriedOut g old old before after want moment (Some m)
-  without_body old before after want moment m none called = record {
+  without_body old before after want moment m none is_one called = record {
     course = Called want [] moment called.outcome;
     read = (refl, sym none, Consumes-nil old);
     leaves = (refl, keeps_limit (g.book before).config want none, called.done);
     crash = called_leaves old before after want moment called.outcome none called.crash;
-    reply = ap Some (sym called.message_is);
+    reply = ap (λ b. cond b (Some (outcome_message want called.outcome)) None) is_one ∙ ap Some (sym called.message_is);
+  }
+
+  -- a question, to which this was told
+  pub was_told : (old : Option (List ℕ)) (before after : K) (question : Asking) (moment : ℕ) (told : Result (Option (List ℕ)) TellFault) (m : Message) → m ≡ told_message question told
+      → Reads g before after → (g.is_clean after → IsTold g.may_fail (g.book before) question moment told) → IsCarriedOut g old old before after (asking question) moment (Some m)
+  was_told old before after question moment told m message_is reads is = record {
+    course = Told question moment told;
+    read = (refl, Consumes-nil old);
+    leaves = (refl, record { reads = reads; is = is });
+    crash = λ h kept faithful clean left may. inl (reads.crash clean left may);
+    reply = ap Some (sym message_is);
   }
 
   module _ (old new : Option (List ℕ)) (before after : K) (name : List ℕ) (n moment : ℕ) where
@@ -326,16 +345,19 @@ module _ {K : Type 0} (g : Ghosts K) where
     reply_told (Err e) m is carried = tt
 
     -- if there is no reply, the reader failed
-    broken : (course : Course) → reply_of course ≡ None → HasReadBehind old new want course → Leaves g moment before after course → LeavesBehind g old new want moment before after course
+    broken : is_call want ≡ true → (course : Course) → reply_of course ≡ None → HasReadBehind old new want course → Leaves g moment before after course → LeavesBehind g old new want moment before after course
         → ReadsUpTo old new (body_length want) × IsAsBefore g before after × LeavesBehind g old new want moment before after Broken
-    broken Silent none read leaves crash = absurd read
-    broken (TurnedAway e) none read leaves crash = absurd (cc)
-    broken (TooLong other) none read leaves crash = absurd (cc)
-    broken Short none read leaves crash = absurd (cc)
-    broken Broken none read leaves crash = (read, leaves, crash)
-    broken (Called other body at outcome) none read leaves crash = absurd (cc)
+    broken is_one Silent none read leaves crash = absurd read
+    broken is_one (TurnedAway e) none read leaves crash = absurd (cc)
+    broken is_one (TooLong other) none read leaves crash = absurd (cc)
+    broken is_one Short none read leaves crash = absurd (cc)
+    broken is_one Broken none read leaves crash = (read, leaves, crash)
+    broken is_one (Called other body at outcome) none read leaves crash =
+        let told : Some (outcome_message other outcome) ≡ None = sym (ap (λ b. cond b (Some (outcome_message other outcome)) None) (ap is_call read.0 ∙ is_one)) ∙ none in
+        absurd (cc)
+    broken is_one (Told question at told) none read leaves crash = absurd (cc)
 
-    pub reply_missing : (r : Result Reply ReaderFailed) (m : Option Message) → MatchResult r (λ reply. Some (message_of reply) ≡ m) (λ _. m ≡ None) → IsCarriedOut g old new before after want moment m
+    pub reply_missing : is_call want ≡ true → (r : Result Reply ReaderFailed) (m : Option Message) → MatchResult r (λ reply. Some (message_of reply) ≡ m) (λ _. m ≡ None) → IsCarriedOut g old new before after want moment m
         → OnErr r (ReadsUpTo old new (body_length want) × IsAsBefore g before after × LeavesBehind g old new want moment before after Broken)
-    reply_missing (Ok reply) m is carried = tt
-    reply_missing (Err e) m is carried = broken carried.course (subst (λ (o : Option Message). reply_of carried.course ≡ o) is carried.reply) carried.read carried.leaves carried.crash
+    reply_missing is_one (Ok reply) m is carried = tt
+    reply_missing is_one (Err e) m is carried = broken is_one carried.course (subst (λ (o : Option Message). reply_of carried.course ≡ o) is carried.reply) carried.read carried.leaves carried.crash

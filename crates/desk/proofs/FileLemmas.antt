@@ -43,6 +43,7 @@ use Rattle.desk.specs.declared.file.LargeFile.{LargeFile}
 use Rattle.desk.proofs.ExchangeLemmas.{handled_asked, without_body}
 use Rattle.desk.proofs.RequestLemmas.{read_behind}
 use Rattle.desk.proofs.TransferLemmas.{AppendsBeginning-all, AppendsBeginning-behind, AppendsBeginning-front}
+use Rattle.desk.specs.declared.routes.Rules.{Rules}
 
 some_inner : {A : Type 0} (x y : A) → Some x ≡ Some y → x ≡ y
 some_inner x y e = ap (λ o. unwrap_or o x) e
@@ -260,8 +261,8 @@ module _ {K : Type 0} (g : Ghosts K) where
       }
 
   -- a large file that was sent answers the connection
-  pub answered_file : (old new : Option (List ℕ)) (before mid after : K) (held holds : Option (List ℕ)) (moment : ℕ) (file : LargeFile) (result : Result Served DeskFault)
-      → IsAskedFor g old new before mid file → Reads g mid after → IsSent g mid (string_bytes file.path) after held holds result → IsAnswered g old new before after held holds moment result
+  pub answered_file : {desk_rules : Rules} (old new : Option (List ℕ)) (before mid after : K) (held holds : Option (List ℕ)) (moment : ℕ) (file : LargeFile) (result : Result Served DeskFault)
+      → IsAskedFor desk_rules g old new before mid file → Reads g mid after → IsSent g mid (string_bytes file.path) after held holds result → IsAnswered desk_rules g old new before after held holds moment result
   answered_file old new before mid after held holds moment file result asked reads sent =
       let path = string_bytes file.path in
       let all = reads_more asked.found.reads reads in
@@ -305,16 +306,17 @@ module _ {K : Type 0} (g : Ghosts K) where
       → message ≡ outcome_message (fetching path true) outcome → (moment : ℕ) → IsCalled g before after (fetching path true) [] moment message
   called_look_up before after path outcome message reads does is moment = record { outcome = outcome; done = does; crash = leaves_read g before after (Lookup path) reads; message_is = is }
 
-  -- what was found of a file that a head asks for
-  pub outgoing_found : (old mid : Option (List ℕ)) (before after : K) (path : List ℕ) (moment : ℕ) (outgoing : Outgoing) → HasHead old mid (fetching path true) → IsFoundAs g before after path outgoing
-      → IsOutgoing g old mid before after moment (Some outgoing)
-  outgoing_found old mid before after path moment (Whole reply) head called =
-      handled_asked g old mid mid before after (fetching path true) moment (message_of reply) head (without_body g mid before after (fetching path true) moment (message_of reply) refl (called moment))
-  outgoing_found old mid before after path moment (Pieces file) head found = record {
-    read = subst (λ (p : List ℕ). Received old mid (asks (fetching p true) [])) (sym found.path_is)
-        (read_behind old mid mid (fetching path true) (Called (fetching path true) [] moment (Ok (Found None))) head (refl, refl, Consumes-nil mid));
-    found = subst (λ (p : List ℕ). IsFound g before after p file) (sym found.path_is) found;
-  }
+  module _ {desk_rules : Rules} where
+    -- what was found of a file that a head asks for
+    pub outgoing_found : (old mid : Option (List ℕ)) (before after : K) (path : List ℕ) (moment : ℕ) (outgoing : Outgoing) → HasHead desk_rules old mid (fetching path true) → IsFoundAs g before after path outgoing
+        → IsOutgoing desk_rules g old mid before after moment (Some outgoing)
+    outgoing_found old mid before after path moment (Whole reply) head called =
+        handled_asked g old mid mid before after (fetching path true) moment (message_of reply) head (without_body g mid before after (fetching path true) moment (message_of reply) refl refl (called moment))
+    outgoing_found old mid before after path moment (Pieces file) head found = record {
+      read = subst (λ (p : List ℕ). Received desk_rules old mid (asks (fetching p true) [])) (sym found.path_is)
+          (read_behind old mid mid (fetching path true) (Called (fetching path true) [] moment (Ok (Found None))) head (refl, refl, Consumes-nil mid));
+      found = subst (λ (p : List ℕ). IsFound g before after p file) (sym found.path_is) found;
+    }
 
 -- ---- the first piece
 

@@ -1,12 +1,14 @@
 pub mod FieldLemmas
 pub mod TransferLemmas
 pub mod RouteLemmas
+pub mod QuestionLemmas
 pub mod HeadLemmas
 pub mod RequestLemmas
 pub mod SeekLemmas
 pub mod WalkLemmas
 pub mod TextLemmas
 pub mod WantedLemmas
+pub mod OriginLemmas
 pub mod UniqueLemmas
 pub mod ReplyLemmas
 pub mod ExchangeLemmas

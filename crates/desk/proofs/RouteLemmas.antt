@@ -9,9 +9,8 @@ use Rattle.matchit.specs.Route.{parse_route}
 use Rattle.matchit.specs.Seek.{first, seek}
 use Rattle.desk.specs.declared.routes.Route.{Route}
 use Rattle.desk.specs.declared.routes.Route.TheVariants as at
-use Rattle.desk.specs.Want.{◌>>=◌, Want, asked_at, beside, command_at, found_route, parameters, routes, wanted_at}
+use Rattle.desk.specs.Want.{Want, asked_at, asked_by, at_question, beside, parameters, questioned, routes, wanted_at}
 use Rattle.desk.specs.declared.head.Refusal.{Refusal}
-use Rattle.desk.specs.declared.head.Refusal.TheVariants.{NotFound}
 use Rattle.desk.specs.Paths.{Place, to_incoming, to_run, to_copy, to_queue, to_clean, to_verdicts, to_dists, to_pool, to_remove, to_promote, print_path, IsPlace, IsPart, IsRest, is_byte, route_of, wanted_of}
 use Rattle.desk.proofs.SeekLemmas.{led, led_first, led_found, first_or, or_found, skip, enter, part_first, end_found, rest_first, last_first, last_found, cut_found, slash_any}
 use Rattle.matchit.specs.Rows.{RowsOf}
@@ -498,17 +497,17 @@ asked_place (to_remove suite name) = refl
 asked_place (to_promote from to) = refl
 
 -- the path of a place asks for its command
-pub place_asks : (p : Place) → IsPlace p → asked_at (print_path p) ≡ beside (route_of p) (wanted_of p)
-place_asks p h =
-    ap (λ o. found_route o >>= command_at (print_path p)) (place_first p h)
+pub place_asks : (key : Option (List ℕ)) (p : Place) → IsPlace p → asked_at key (print_path p) ≡ beside (route_of p) (wanted_of p)
+place_asks key p h =
+    ap (asked_by key (print_path p)) (place_first p h)
     ∙ ap (λ taken. beside (place_row p).value (wanted_at (place_row p).value taken (print_path p))) (parameters_are p h)
     ∙ ap (λ v. beside v (wanted_at v (place_parameters p) (print_path p))) (row_value p)
     ∙ asked_place p
 
--- any other path has no route
-pub other_path : (path : List ℕ) → list_all is_byte path ≡ true → ((p : Place) → IsPlace p → path ≡ print_path p → ⊥) → asked_at path ≡ Err NotFound
-other_path path small other = by (first routes path) refl
+-- any other path has no route, and asks its question
+pub other_path : (key : Option (List ℕ)) (path : List ℕ) → list_all is_byte path ≡ true → ((p : Place) → IsPlace p → path ≡ print_path p → ⊥) → asked_at key path ≡ at_question (questioned key path)
+other_path key path small other = by (first routes path) refl
   where
-    by : (o : Option (RouteOf Route)) → first routes path ≡ o → asked_at path ≡ Err NotFound
-    by None e = ap (λ o. found_route o >>= command_at path) e
+    by : (o : Option (RouteOf Route)) → first routes path ≡ o → asked_at key path ≡ at_question (questioned key path)
+    by None e = ap (asked_by key path) e
     by (Some row) e = let found = route_found path row small e in absurd (other found.place found.is_place found.whole)

@@ -8,7 +8,12 @@ use Rattle.history.specs.declared.fault.Fault.{Fault}
 use Rattle.history.specs.declared.fault.Fault.TheVariants as fault
 use Rattle.desk.specs.Answer.{refusal_message, text_message}
 use Rattle.desk.specs.Reply.{Message, line}
-use Rattle.desk.specs.Want.{Want, delivery, queue_run, copying, fetching, waiting_list, cleaning, verdict_list, removing, promoting}
+use Rattle.desk.specs.Want.{Want, delivery, queue_run, copying, fetching, waiting_list, cleaning, verdict_list, removing, promoting, asking}
+use Rattle.desk.specs.declared.content.Content.{Content}
+use Rattle.desk.specs.declared.content.Content.TheVariants.{Text, Binary, Objects, Page, Figures}
+use Rattle.telling.specs.Told.{Asking, explained, shown_of, configuration, waiting_objects, verdict_objects, figures, figure_lines, page_of}
+use Rattle.telling.specs.declared.fault.TellFault.{TellFault}
+use Rattle.telling.specs.declared.fault.TellFault.TheVariants as told
 use Rattle.desk.specs.declared.head.Refusal.TheVariants as refusal
 
 -- The call that is wanted, with the body that came, at the moment that is handed in. A promotion copies all that the suite shows.
@@ -22,11 +27,22 @@ call_wanted cleaning body moment = Cleaning moment
 call_wanted verdict_list body moment = VerdictList
 call_wanted (removing suite name) body moment = Removing suite name moment
 call_wanted (promoting from to) body moment = Promoting from to None moment
+call_wanted (asking question) body moment = VerdictList
+
+-- Whether a call is wanted. A question is no call, and a call that changes nothing stands for it.
+abbrev pub is_call : Want → Bool
+is_call (asking question) = false
+is_call want = true
 
 -- whether a file of the pool is wanted
 abbrev pub is_pool_file : Want → Bool
 is_pool_file (fetching path is_pool) = is_pool
 is_pool_file want = false
+
+-- what a file is: bytes, if it is of the pool, else an index text
+abbrev pub file_content : Bool → Content
+file_content true = Binary
+file_content false = Text
 
 -- the reply to what was done
 abbrev pub done_message : Bool → Reply → Message
@@ -36,7 +52,7 @@ done_message is_pool (Lines lines) = text_message 200 (flat_map line lines)
 done_message is_pool (Count items) = text_message 200 (line (decimal items))
 done_message is_pool (Copies copies) = text_message 200 (flat_map line (map copy_line copies))
 done_message is_pool (Found None) = refusal_message refusal.NotFound
-done_message is_pool (Found (Some file)) = record { status = 200; allow = None; is_binary = is_pool; body = file }
+done_message is_pool (Found (Some file)) = record { status = 200; allow = None; content = file_content is_pool; body = file }
 
 -- the reply to a refusal of the archive: for want of memory or a fault of its keeper it says that this cannot be stored, for the size of
 -- a body that it is too large, else it has the text of the fault
@@ -50,6 +66,30 @@ fault_message cause = text_message 422 (line (fault_text cause))
 abbrev pub outcome_message : Want → Result Reply Fault → Message
 outcome_message want (Ok reply) = done_message (is_pool_file want) reply
 outcome_message want (Err cause) = fault_message cause
+
+-- lines of text, or objects of JSON, one a line
+abbrev pub lines_content : (is_json : Bool) → Content
+lines_content true = Objects
+lines_content false = Text
+
+-- what the answer to a question is
+abbrev pub content_of : Asking → Content
+content_of (explained name is_json) = lines_content is_json
+content_of (shown_of suite is_json) = lines_content is_json
+content_of configuration = Text
+content_of waiting_objects = Objects
+content_of verdict_objects = Objects
+content_of figures = Figures
+content_of figure_lines = Text
+content_of (page_of page key) = Page
+
+-- the reply to a question
+abbrev pub told_message : Asking → Result (Option (List ℕ)) TellFault → Message
+told_message question (Ok (Some text)) = record { status = 200; allow = None; content = content_of question; body = text }
+told_message question (Ok None) = refusal_message refusal.NotFound
+told_message question (Err (told.Keeper cause)) = refusal_message refusal.OutOfMemory
+told_message question (Err told.Moment) = text_message 422 (line (codes "Q5"))
+told_message question (Err told.UnknownSuite) = text_message 422 (line (codes "Q6"))
 
 -- The reply to a delivery that was refused. A body that ended early is a bad request, and if the reader failed there is no reply.
 abbrev pub reception_message : Fault → Option Message

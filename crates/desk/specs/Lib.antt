@@ -1,6 +1,7 @@
 pub mod HeadEnd
 pub mod Incoming
 pub mod Paths
+pub mod Questions
 pub mod Refusals
 pub mod Request
 pub mod Transfer

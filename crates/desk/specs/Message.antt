@@ -17,4 +17,4 @@ body_text status (b.Fault text) = line (text_of text)
 body_text status (b.Bytes bytes) = bytes.items
 
 abbrev pub message_of : Reply → Message
-message_of r = record { status = r.status; allow = r.allow; is_binary = r.is_binary; body = body_text r.status r.body }
+message_of r = record { status = r.status; allow = r.allow; content = r.content; body = body_text r.status r.body }

@@ -12,6 +12,7 @@ use Rattle.desk.specs.Want.{fetching}
 use Rattle.desk.specs.declared.exchange.Outgoing.{Outgoing}
 use Rattle.desk.specs.declared.exchange.Outgoing.TheVariants.{Whole, Pieces}
 use Rattle.desk.specs.declared.file.LargeFile.{LargeFile}
+use Rattle.desk.specs.declared.routes.Rules.{Rules}
 
 module _ {K : Type 0} (g : Ghosts K) where
   -- The first piece of a large file was read, and nothing of the archive changed.
@@ -26,13 +27,14 @@ module _ {K : Type 0} (g : Ghosts K) where
   IsFoundAs before after path (Whole reply) = (moment : ℕ) → IsCalled g before after (fetching path true) [] moment (message_of reply)
   IsFoundAs before after path (Pieces file) = IsFound before after path file
 
+module _ (rules : Rules) {K : Type 0} (g : Ghosts K) where
   -- The request was for a file of the pool, and its first piece was read.
   pub record IsAskedFor (old new : Option (List ℕ)) (before after : K) (file : LargeFile) : Type 0 where
-    pub read : Received old new (asks (fetching (string_bytes file.path) true) [])
-    pub found : IsFound before after (string_bytes file.path) file
+    pub read : Received rules old new (asks (fetching (string_bytes file.path) true) [])
+    pub found : IsFound g before after (string_bytes file.path) file
 
   -- A request was read and carried out, and the reply is at hand, or the first piece of the file that it asks for; or no byte came.
   abbrev pub IsOutgoing : Option (List ℕ) → Option (List ℕ) → K → K → ℕ → Option Outgoing → Type 0
-  IsOutgoing old new before after moment None = IsHandled g old new before after moment None
-  IsOutgoing old new before after moment (Some (Whole reply)) = IsHandled g old new before after moment (Some (message_of reply))
+  IsOutgoing old new before after moment None = IsHandled rules g old new before after moment None
+  IsOutgoing old new before after moment (Some (Whole reply)) = IsHandled rules g old new before after moment (Some (message_of reply))
   IsOutgoing old new before after moment (Some (Pieces file)) = IsAskedFor old new before after file

@@ -28,7 +28,7 @@ impl<R: Read, W: Write> Connection<R, W> {
     pub fn serve<K: Keeper>(&mut self, alloc: Global, desk: &Desk, archive: &mut Archive<K>)
         ensures lasts { Lasts K.Keeper archive.old.keeper archive.new.keeper }
         ensures moment { self.new.moment ≡ self.old.moment }
-        ensures served { IsServed K.Keeper (visit R.remaining W.contents self.old self.new)
+        ensures served { IsServed K.Keeper (visit desk.now.rules R.remaining W.contents self.old self.new)
             archive.old.keeper archive.new.keeper }
     {
         self.end = Some(desk.answer(
@@ -50,7 +50,7 @@ pub fn attend<K: Keeper, R: Read, W: Write>(
 )
     ensures lasts { Lasts K.Keeper archive.old.keeper archive.new.keeper }
     ensures served { AreServed K.Keeper archive.old.keeper archive.new.keeper
-        (visits R.remaining W.contents connections.old connections.new) }
+        (visits desk.now.rules R.remaining W.contents connections.old connections.new) }
 {
     for connection in connections.iter_mut() {
         connection.serve(alloc, desk, archive);

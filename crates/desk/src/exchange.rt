@@ -1,20 +1,22 @@
 //! One connection: its request, the call of the archive that it asks for, and the reply.
 ghost use Rattle.std.specs.Prelude.{◌≡◌, ℕ, Bool, true, List, Some, None, IfOk, OnErr, MatchResult, map, string_bytes};
 ghost use Rattle.desk.specs.Answer.{text_message};
-ghost use Rattle.desk.specs.Calls.{done_message, fault_message, outcome_message, reception_message};
+ghost use Rattle.desk.specs.Calls.{done_message, fault_message, outcome_message, reception_message, told_message};
 ghost use Rattle.desk.specs.Exchange.{Broken, Course, HasWritten, IsAnswered, IsCarriedOut, LeavesBehind, LeavesCourse, reply_of};
 ghost use Rattle.desk.specs.Outgoing.{IsFoundAs, IsOutgoing};
 ghost use Rattle.desk.specs.Incoming.{ReadsBeginning, ReadsUpTo};
 ghost use Rattle.desk.specs.Message.{message_of};
 ghost use Rattle.desk.specs.Reply.{line};
 ghost use Rattle.desk.specs.Request.{body_length, want_of};
-ghost use Rattle.desk.specs.Want.{Want, fetching, may_ask};
+ghost use Rattle.desk.specs.Want.{Want, fetching, may_ask, no_rules};
 ghost use Rattle.queue.specs.Answers.{copy_line};
 ghost use Rattle.queue.specs.Commands.{copies_of, counted, found, is_new, lines_of, promoted, reported};
 ghost use Rattle.queue.specs.Histories.{Stored};
 ghost use Rattle.queue.specs.Receiving.{IsAsBefore};
 ghost use Rattle.queue.specs.Steps.{Lasts, Reads};
+ghost use Rattle.telling.specs.Told.{bytes_of, question_of};
 
+use crate::content::Content;
 use crate::fault_text::{FaultText, record_text};
 use crate::file::{LargeFile, is_all, is_large, send_file};
 use crate::head::{Ask, Refusal};
@@ -30,6 +32,7 @@ use std::alloc::Global;
 use std::error::Error;
 use std::fmt;
 use std::io::{Read, Write};
+use telling::{Question, TellFault, tell};
 
 /// What a connection was answered.
 #[derive(Clone, Copy, Debug, PartialEq, Eq)]
@@ -118,7 +121,7 @@ impl Desk {
         moment: u64,
     ) -> Result<Served, DeskFault>
         ensures lasts { Lasts K.Keeper archive.old.keeper archive.new.keeper }
-        ensures answered { IsAnswered K.Keeper (R.remaining reader.old) (R.remaining reader.new)
+        ensures answered { IsAnswered self.now.rules K.Keeper (R.remaining reader.old) (R.remaining reader.new)
             archive.old.keeper archive.new.keeper (W.contents writer.old) (W.contents writer.new) moment result }
     {
         match reply_to(alloc, self, archive, reader, moment) {
@@ -130,7 +133,7 @@ impl Desk {
     }
 }
 
-/// Answers one connection as [`Desk::answer`] does, by a desk of its own. If there is no memory for one, the reply is 507 and nothing is
+/// Answers one connection as [`Desk::answer`] does, by a desk of its own, which looks at no field Origin and names no key. If there is no memory for one, the reply is 507 and nothing is
 /// read.
 pub fn answer<K: Keeper, R: Read, W: Write>(
     alloc: Global,
@@ -140,7 +143,7 @@ pub fn answer<K: Keeper, R: Read, W: Write>(
     moment: u64,
 ) -> Result<Served, DeskFault>
     ensures lasts { Lasts K.Keeper archive.old.keeper archive.new.keeper }
-    ensures answered { IsAnswered K.Keeper (R.remaining reader.old) (R.remaining reader.new)
+    ensures answered { IsAnswered no_rules K.Keeper (R.remaining reader.old) (R.remaining reader.new)
         archive.old.keeper archive.new.keeper (W.contents writer.old) (W.contents writer.new) moment result }
 {
     match Desk::new(alloc) {
@@ -176,10 +179,10 @@ fn reply_to<K: Keeper, R: Read>(
     moment: u64,
 ) -> Result<Option<Outgoing>, ReaderFailed>
     ensures lasts { Lasts K.Keeper archive.old.keeper archive.new.keeper }
-    ensures ok { IfOk result (IsOutgoing K.Keeper (R.remaining reader.old) (R.remaining reader.new)
+    ensures ok { IfOk result (IsOutgoing desk.now.rules K.Keeper (R.remaining reader.old) (R.remaining reader.new)
         archive.old.keeper archive.new.keeper moment) }
-    ensures err { OnErr result (ReadsBeginning (R.remaining reader.old) (R.remaining reader.new) × IsAsBefore K.Keeper archive.old.keeper archive.new.keeper
-        × LeavesCourse K.Keeper (R.remaining reader.old) (R.remaining reader.new) moment archive.old.keeper archive.new.keeper Broken) }
+    ensures err { OnErr result (ReadsBeginning desk.now.rules (R.remaining reader.old) (R.remaining reader.new) × IsAsBefore K.Keeper archive.old.keeper archive.new.keeper
+        × LeavesCourse desk.now.rules K.Keeper (R.remaining reader.old) (R.remaining reader.new) moment archive.old.keeper archive.new.keeper Broken) }
 {
     match read_request(alloc, desk, reader) {
         Err(fault) => Err(fault),
@@ -272,6 +275,10 @@ fn carry_out<K: Keeper, R: Read>(
             let copied = archive.promote(alloc, from.as_str(), to.as_str(), &None, moment);
             Ok(promotion_reply(copied))
         }
+        Ask::Question(question) => {
+            let told = tell(alloc, &mut archive.keeper, question, moment);
+            Ok(told_reply(question, told))
+        }
     }
 }
 
@@ -315,6 +322,24 @@ fn promotion_reply(outcome: Result<Promotion, Fault>) -> Reply
     }
 }
 
+/// The reply to a question.
+fn told_reply(question: &Question, told: Result<Option<Vec<u8>>, TellFault>) -> Reply
+    ensures { message_of result ≡ told_message (question_of question.now) (bytes_of told) }
+{
+    match told {
+        Ok(Some(text)) => Reply {
+            status: StatusCode::OK,
+            allow: None,
+            content: Content::of_answer(question),
+            body: Body::Bytes(text),
+        },
+        Ok(None) => Reply::to_refusal(Refusal::NotFound),
+        Err(TellFault::Keeper(_)) => Reply::to_refusal(Refusal::OutOfMemory),
+        Err(TellFault::Moment) => fault_reply(Fault::Moment),
+        Err(TellFault::UnknownSuite) => fault_reply(Fault::UnknownSuite),
+    }
+}
+
 /// The reply to a fetch, of a file of the pool or of an index text.
 fn fetch_reply(outcome: Result<Option<Vec<u8>>, Fault>, is_pool: bool) -> Reply
     ensures { (path : List ℕ) → message_of result ≡ outcome_message (fetching path is_pool) (found outcome) }
@@ -323,7 +348,7 @@ fn fetch_reply(outcome: Result<Option<Vec<u8>>, Fault>, is_pool: bool) -> Reply
         Ok(Some(bytes)) => Reply {
             status: StatusCode::OK,
             allow: None,
-            is_binary: is_pool,
+            content: Content::of_file(is_pool),
             body: Body::Bytes(bytes),
         },
         Ok(None) => Reply::to_refusal(Refusal::NotFound),

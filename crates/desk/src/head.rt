@@ -2,17 +2,19 @@
 //!
 //! As in httparse, a line of a head may end in LF alone, and empty lines may come first. Only CR LF CR LF ends a head: a head that
 //! httparse finds complete earlier is answered 400.
-ghost use Rattle.std.specs.Prelude.{◌≡◌, ◌≤◌, true, false, ℕ, List, [], length, map, drop, All, unwrap_or, IfOk, IfErr, OnErr, MatchResult, string_bytes};
+ghost use Rattle.std.specs.Prelude.{◌≡◌, ◌≤◌, ◌&&◌, not, true, false, ℕ, List, [], length, map, drop, All, unwrap_or, IfOk, IfErr, OnErr, MatchResult, string_bytes};
 ghost use Rattle.std.specs.List.{list_any, list_all};
 ghost use Rattle.std.specs.Char.{is_ascii_digit};
+ghost use Rattle.std.specs.Option.{option_map};
 ghost use Rattle.std.specs.Str.{IsUtf8, bytes_eq};
 ghost use Rattle.httparse.specs.Grammar.{RequestHead};
 ghost use Rattle.httparse.specs.Spans.{header_bytes, span_bytes, IsHeaderWithin, IsRequestAt, IsRequestWithin};
 ghost use Rattle.matchit.specs.Params.{AllText, named, walk};
-ghost use Rattle.desk.specs.Want.{asked_at, content_length, decoded, fetched_at, is_named, is_path, length_value, pass, wanted_at, with_length as with_body_length};
+ghost use Rattle.desk.specs.Want.{asked_at, changes, content_length, decoded, fetched_at, is_named, is_path, length_value, pass, wanted_at, with_length as with_body_length};
 ghost use Rattle.desk.specs.Refusals.{allowed, refusal_status};
 ghost use Rattle.desk.specs.Request.{Gives, HeadAsks, IsHead, found_want, want_of};
 
+use crate::questions::find_question;
 use crate::routes::{Desk, Route};
 use http::{Method, StatusCode};
 use httparse::Status;
@@ -21,6 +23,7 @@ use matchit::Params;
 use percent_encoding::percent_decode;
 use std::alloc::{AllocError, Global};
 use sums::{MOST_SIZE, is_file_name};
+use telling::Question;
 
 /// The most header fields that a head may have.
 const MAX_FIELDS: usize = 32;
@@ -31,6 +34,8 @@ pub enum Refusal {
     BadRequest,
     NotFound,
     MethodNotAllowed(Method),
+    /// A page in a browser asks for a change.
+    Forbidden,
     LengthRequired,
     PayloadTooLarge,
     HeadTooLarge,
@@ -46,6 +51,7 @@ impl Refusal {
             Refusal::BadRequest => StatusCode::BAD_REQUEST,
             Refusal::NotFound => StatusCode::NOT_FOUND,
             Refusal::MethodNotAllowed(_) => StatusCode::METHOD_NOT_ALLOWED,
+            Refusal::Forbidden => StatusCode::FORBIDDEN,
             Refusal::LengthRequired => StatusCode::LENGTH_REQUIRED,
             Refusal::PayloadTooLarge => StatusCode::PAYLOAD_TOO_LARGE,
             Refusal::HeadTooLarge => StatusCode::REQUEST_HEADER_FIELDS_TOO_LARGE,
@@ -64,6 +70,7 @@ impl Refusal {
             Refusal::MethodNotAllowed(method) => Some(method),
             Refusal::BadRequest
             | Refusal::NotFound
+            | Refusal::Forbidden
             | Refusal::LengthRequired
             | Refusal::PayloadTooLarge
             | Refusal::HeadTooLarge
@@ -114,6 +121,8 @@ pub enum Ask {
         from: String,
         to: String,
     },
+    /// A question, which changes nothing.
+    Question(Question),
 }
 
 impl Ask {
@@ -122,15 +131,19 @@ impl Ask {
         match self {
             Ask::Run | Ask::Copy { .. } | Ask::Clean | Ask::Remove { .. } | Ask::Promote { .. } =>
                 true,
-            Ask::Deliver { .. } | Ask::Fetch { .. } | Ask::Waiting | Ask::Verdicts => false,
+            Ask::Deliver { .. }
+            | Ask::Fetch { .. }
+            | Ask::Waiting
+            | Ask::Verdicts
+            | Ask::Question(_) => false,
         }
     }
 }
 
-/// Reads a whole head. It checks the target, then the Transfer-Encoding, the route, the parameters of the route, the method and the
-/// Content-Length. The first check that fails says why the head is refused.
+/// Reads a whole head. It checks the target, then the Transfer-Encoding, the route, the parameters of the route, the method, the Origin, if
+/// the desk refuses it, and the Content-Length. The first check that fails says why the head is refused.
 pub fn read_wanted(alloc: Global, desk: &Desk, head: &[u8]) -> Result<Ask, Refusal>
-    ensures { Gives want_of result (HeadAsks head.now) }
+    ensures { Gives want_of result (HeadAsks desk.now.rules head.now) }
 {
     let mut headers = [EMPTY_HEADER_SPAN; MAX_FIELDS];
     let spans = parse_whole(head, &mut headers)?;
@@ -141,6 +154,8 @@ pub fn read_wanted(alloc: Global, desk: &Desk, head: &[u8]) -> Result<Ask, Refus
     }
     let (route, wanted) = find_wanted(alloc, desk, target)?;
     check_method(spans.method.of(head), route.method())?;
+    let has_origin = has_field(head, fields, b"origin");
+    check_origin(desk.rules.refuses_origin, route, has_origin)?;
     with_length(wanted, content_length(head, fields)?)
 }
 
@@ -251,13 +266,14 @@ fn is_digits(text: &[u8]) -> bool
     text.iter().all(|c| c.is_ascii_digit())
 }
 
-/// What a path asks for: its route, and the command of that route.
+/// What a path asks for: its route, and the command of that route. A path without a route may ask a question.
 fn find_wanted(alloc: Global, desk: &Desk, target: &str) -> Result<(Route, Ask), Refusal>
     requires { is_path target.now ≡ true }
-    ensures { Gives found_want result (λ r. r ≡ asked_at target.now) }
+    ensures { Gives found_want result (λ r. r ≡ asked_at (option_map string_bytes desk.now.rules.key) target.now) }
 {
     let Ok(found) = desk.router().at(target) else {
-        return Err(Refusal::NotFound);
+        let question = find_question(alloc, &desk.rules.key, target.as_bytes())?;
+        return Ok((Route::Question, Ask::Question(question)));
     };
     let route = *found.value;
     let wanted = read_route(alloc, route, target, &found.params)?;
@@ -300,6 +316,7 @@ fn read_route(
             let to = decode_param(alloc, params, "to")?;
             Ok(Ask::Promote { from, to })
         }
+        Route::Question => Err(Refusal::NotFound),
     }
 }
 
@@ -324,8 +341,15 @@ fn decode_param(alloc: Global, params: &Params<'_, '_>, name: &str) -> Result<St
 fn decode(alloc: Global, escaped: &str) -> Result<String, Refusal>
     ensures { Gives string_bytes result (λ r. r ≡ decoded escaped.now) }
 {
+    decode_bytes(alloc, escaped.as_bytes())
+}
+
+/// Bytes of a path with their escapes undone.
+pub fn decode_bytes(alloc: Global, escaped: &[u8]) -> Result<String, Refusal>
+    ensures { Gives string_bytes result (λ r. r ≡ decoded escaped.now) }
+{
     let mut bytes = Vec::new(alloc);
-    percent_decode(escaped.as_bytes()).append_to(&mut bytes)?;
+    percent_decode(escaped).append_to(&mut bytes)?;
     match String::from_utf8(bytes) {
         Ok(text) => Ok(text),
         Err(_) => Err(Refusal::BadRequest),
@@ -340,6 +364,17 @@ fn check_method(method: &[u8], wanted: Method) -> Result<(), Refusal>
         Ok(())
     } else {
         Err(Refusal::MethodNotAllowed(wanted))
+    }
+}
+
+/// Refuses a change that has a field Origin, if such changes are refused.
+fn check_origin(refuses_origin: bool, route: Route, has_origin: bool) -> Result<(), Refusal>
+    ensures { result ≡ pass (not (refuses_origin && (changes route && has_origin))) Refusal.Forbidden }
+{
+    if refuses_origin && route.changes() && has_origin {
+        Err(Refusal::Forbidden)
+    } else {
+        Ok(())
     }
 }
 

@@ -2,11 +2,13 @@
 #![tactic(auto)]
 
 pub mod connection;
+pub mod content;
 pub mod exchange;
 pub mod fault_text;
 pub mod file;
 pub mod head;
 pub mod laws;
+mod questions;
 pub mod reply;
 pub mod request;
 pub mod routes;

@@ -2,7 +2,7 @@
 //!
 //! The texts of a reply are in the program or come from the archive, and a fault is written in parts. So a reply takes no memory, and a 422
 //! never turns into a 507.
-ghost use Rattle.std.specs.Prelude.{◌≡◌, ◌≤◌, ◌*◌, ◌^◌, ℕ, List, false, None, [], unwrap_or, length, string_bytes, OnOk, OnErr};
+ghost use Rattle.std.specs.Prelude.{◌≡◌, ◌≤◌, ◌*◌, ◌^◌, ℕ, List, None, [], unwrap_or, length, string_bytes, OnOk, OnErr};
 ghost use Rattle.std.specs.List.{flat_map};
 ghost use Rattle.std.specs.Io.KnownBytes.{Appends, Keeps};
 ghost use Rattle.http.specs.StatusCode.{reason_phrase};
@@ -12,14 +12,17 @@ ghost use Rattle.desk.specs.FaultText.{line_part, text_of};
 ghost use Rattle.desk.specs.File.{file_message};
 ghost use Rattle.desk.specs.Message.{message_of, body_text};
 ghost use Rattle.desk.specs.Parts.{parts_text};
-ghost use Rattle.desk.specs.Reply.{content_type, head_text, line, message_text, phrase};
+ghost use Rattle.desk.specs.Reply.{head_text, line, message_text, of_page, phrase};
+ghost use Rattle.desk.specs.declared.content.Content.TheVariants.{Text};
 ghost use Rattle.desk.specs.Transfer.{AppendsBeginning};
 
+use crate::content::Content;
 use crate::fault_text::FaultText;
 use crate::head::Refusal;
 use crate::transfer::{WriterFailed, write_whole};
 use http::{Method, StatusCode};
 use itoa::Buffer;
+use pages::POLICY;
 use std::io::Write;
 
 /// What a reply carries. All but `Bytes` is text, and every line of it ends with a newline.
@@ -41,20 +44,19 @@ pub struct Reply {
     pub status: StatusCode,
     /// The method to use instead, if another was used.
     pub allow: Option<Method>,
-    /// Whether the body is bytes rather than text.
-    pub is_binary: bool,
+    pub content: Content,
     pub body: Body,
 }
 
 impl Reply {
     /// A reply of text.
     pub fn new(status: StatusCode, body: Body) -> Reply
-        ensures { result ≡ record { status = status; allow = None; is_binary = false; body = body } }
+        ensures { result ≡ record { status = status; allow = None; content = Text; body = body } }
     {
         Reply {
             status,
             allow: None,
-            is_binary: false,
+            content: Content::Text,
             body,
         }
     }
@@ -67,7 +69,7 @@ impl Reply {
         Reply {
             status,
             allow: refusal.into_allowed(),
-            is_binary: false,
+            content: Content::Text,
             body: Body::Phrase,
         }
     }
@@ -112,8 +114,11 @@ fn write_head<W: Write>(writer: &mut W, reply: &Reply) -> Result<(), WriterFaile
     let parts = Parts {
         status: status.format(reply.status.as_u16()),
         phrase: phrase_of(reply.status),
-        content_type: content_type_of(reply.is_binary),
+        content_type: reply.content.media_type(),
         length: length.format(body_length(reply)),
+        policy_name: page_part(reply.content, "Content-Security-Policy: "),
+        policy: page_part(reply.content, POLICY),
+        policy_end: page_part(reply.content, "; frame-ancestors 'none'\r\n"),
         allow: allow_part(reply, "Allow: "),
         method: allow_method(reply),
         line_end: allow_part(reply, "\r\n"),
@@ -132,8 +137,11 @@ pub fn write_file_head<W: Write>(writer: &mut W, size: u64) -> Result<(), Writer
     let parts = Parts {
         status: status.format(StatusCode::OK.as_u16()),
         phrase: phrase_of(StatusCode::OK),
-        content_type: content_type_of(true),
+        content_type: Content::Binary.media_type(),
         length: length.format(size),
+        policy_name: "",
+        policy: "",
+        policy_end: "",
         allow: "",
         method: "",
         line_end: "",
@@ -148,6 +156,9 @@ struct Parts<'t> {
     phrase: &'t str,
     content_type: &'t str,
     length: &'t str,
+    policy_name: &'t str,
+    policy: &'t str,
+    policy_end: &'t str,
     allow: &'t str,
     method: &'t str,
     line_end: &'t str,
@@ -167,6 +178,9 @@ fn write_parts<W: Write>(writer: &mut W, parts: &Parts<'_>) -> Result<(), Writer
         b"\r\nContent-Length: ".as_slice(),
         parts.length.as_bytes(),
         b"\r\n".as_slice(),
+        parts.policy_name.as_bytes(),
+        parts.policy.as_bytes(),
+        parts.policy_end.as_bytes(),
         parts.allow.as_bytes(),
         parts.method.as_bytes(),
         parts.line_end.as_bytes(),
@@ -201,13 +215,13 @@ fn phrase_of(status: StatusCode) -> &'static str
     status.canonical_reason().unwrap_or("")
 }
 
-fn content_type_of(is_binary: bool) -> &'static str
-    ensures { result.now ≡ content_type is_binary }
+/// A part of the head that a page alone has.
+fn page_part(content: Content, part: &'static str) -> &'static str
+    ensures { result.now ≡ of_page content part.now }
 {
-    if is_binary {
-        "application/octet-stream"
-    } else {
-        "text/plain; charset=utf-8"
+    match content {
+        Content::Page => part,
+        Content::Text | Content::Binary | Content::Objects | Content::Figures => "",
     }
 }
 

@@ -28,8 +28,8 @@ pub fn read_request<R: Read>(
     desk: &Desk,
     reader: &mut R,
 ) -> Result<Request, ReaderFailed>
-    ensures ok { IfOk result (IsIncoming (R.remaining reader.old) (R.remaining reader.new)) }
-    ensures err { OnErr result (ReadsBeginning (R.remaining reader.old) (R.remaining reader.new)) }
+    ensures ok { IfOk result (IsIncoming desk.now.rules (R.remaining reader.old) (R.remaining reader.new)) }
+    ensures err { OnErr result (ReadsBeginning desk.now.rules (R.remaining reader.old) (R.remaining reader.new)) }
 {
     let mut head = ArrayVec::new();
     match read_head(reader, &mut head)? {

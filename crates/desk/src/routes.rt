@@ -2,8 +2,8 @@
 //!
 //! The routes are read once, into a `Desk`, which answers any number of connections. The function `answer` makes a desk of its own: if
 //! there is no memory for it the reply is 507, and nothing was read.
-ghost use Rattle.std.specs.Prelude.{◌≡◌, [], take, IfOk, IfErr, OnOk};
-ghost use Rattle.desk.specs.Want.{add_routes, method_of, route_texts, routes};
+ghost use Rattle.std.specs.Prelude.{◌≡◌, [], take, true, None, IfOk, IfErr, OnOk};
+ghost use Rattle.desk.specs.Want.{add_routes, changes, method_of, no_rules, route_texts, routes};
 
 use http::Method;
 use matchit::{InsertError, Router};
@@ -23,6 +23,8 @@ pub enum Route {
     Remove,
     Clean,
     Promote,
+    /// The route of all questions.
+    Question,
 }
 
 impl Route {
@@ -34,7 +36,28 @@ impl Route {
             Route::Deliver => Method::PUT,
             Route::Run | Route::Copy | Route::Remove | Route::Clean | Route::Promote =>
                 Method::POST,
-            Route::Waiting | Route::Verdicts | Route::Dists | Route::Pool => Method::GET,
+            Route::Waiting | Route::Verdicts | Route::Dists | Route::Pool | Route::Question => {
+                Method::GET
+            }
+        }
+    }
+}
+
+impl Route {
+    /// Whether the route changes something: its method is not GET.
+    pub fn changes(self) -> bool
+        ensures { result ≡ changes self }
+    {
+        match self {
+            Route::Deliver
+            | Route::Run
+            | Route::Copy
+            | Route::Remove
+            | Route::Clean
+            | Route::Promote => true,
+            Route::Waiting | Route::Verdicts | Route::Dists | Route::Pool | Route::Question => {
+                false
+            }
         }
     }
 }
@@ -78,22 +101,62 @@ fn router(alloc: Global) -> Result<Router<Route>, InsertError>
     Ok(router)
 }
 
+/// What a desk goes by, beside its routes.
+#[derive(Debug, Drop)]
+pub struct Rules {
+    /// Whether a request that changes something is refused if it has a field Origin.
+    pub refuses_origin: bool,
+    /// The file of the key by which the Releases are signed, if they are: the pages name it.
+    pub key: Option<String>,
+}
+
 /// The desk that answers requests. Its router of all routes is made once and serves any number of connections. It remembers whether the
 /// archive was handed a call that may change what suites show.
 #[derive(Drop)]
 pub struct Desk {
     router: Router<Route>,
     has_change: Cell<bool>,
+    pub rules: Rules,
     ghost all: { router ≡ routes },
 }
 
 impl Desk {
-    /// A desk with all routes.
-    pub fn new(alloc: Global) -> Result<Desk, AllocError> {
+    /// A desk with all routes, which looks at no field Origin and names no key.
+    pub fn new(alloc: Global) -> Result<Desk, AllocError>
+        ensures { IfOk result (λ desk. desk.rules ≡ no_rules) }
+    {
+        Desk::with_rules(
+            alloc,
+            Rules {
+                refuses_origin: false,
+                key: None,
+            },
+        )
+    }
+
+    /// A desk with all routes, which refuses each request that changes something and has a field Origin. A browser adds that field to what a
+    /// page asks for, and other clients don't send it.
+    pub fn refusing_origin(alloc: Global) -> Result<Desk, AllocError>
+        ensures { IfOk result (λ desk. desk.rules ≡ record { refuses_origin = true; key = None }) }
+    {
+        Desk::with_rules(
+            alloc,
+            Rules {
+                refuses_origin: true,
+                key: None,
+            },
+        )
+    }
+
+    /// A desk with all routes, which goes by these rules.
+    pub fn with_rules(alloc: Global, rules: Rules) -> Result<Desk, AllocError>
+        ensures { IfOk result (λ desk. desk.rules ≡ rules) }
+    {
         match router(alloc) {
             Ok(router) => Ok(Desk {
                 router,
                 has_change: Cell::new(false),
+                rules,
             }),
             Err(_) => Err(AllocError),
         }

@@ -10,5 +10,5 @@ invariant-loop-connection g l = record {
   size : length l.connections ≡ length l.initial.connections;
   lasts : Lasts g.K.Keeper l.initial.archive.keeper l.archive.keeper;
   served : AreServed g.K.Keeper l.initial.archive.keeper l.archive.keeper
-      (visits g.R.Read.remaining g.W.Write.contents (take l.connection-index l.initial.connections) (take l.connection-index l.connections));
+      (visits l.desk.rules g.R.Read.remaining g.W.Write.contents (take l.connection-index l.initial.connections) (take l.connection-index l.connections));
 }

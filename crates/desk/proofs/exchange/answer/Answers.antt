@@ -4,6 +4,9 @@ use Rattle.std.proofs.KnownBytes.{Consumes-nil}
 use Rattle.desk.specs.Exchange.{Short}
 use Rattle.desk.proofs.exchange.answer.Goals as goal
 
+pub returns-in-Ok-clause-answered : goal.returns-in-Ok-clause-answered
+returns-in-Ok-clause-answered g c = rw c.in-Ok.ensures at c.answer.ensures.answered
+
 pub returns-in-Err-clause-answered : goal.returns-in-Err-clause-answered
 returns-in-Err-clause-answered g c = record {
   course = Short;

@@ -18,7 +18,7 @@ pub carry_out-requires : goal.carry_out-requires
 carry_out-requires g c =
     let h = rw c.in-Ok-Asks.field-0-is at c.in-Ok-Asks.ensures.ok in
     let head = rw (sym c.in-Err-pool_path.ensures) at h in
-    small_body head.head (want_of c.in-Err-pool_path.wanted) head.asked
+    small_body _ head.head (want_of c.in-Err-pool_path.wanted) head.asked
 
 pub returns-in_err-reply-in-Err-pool_path-clause-err : goal.returns-in_err-reply-in-Err-pool_path-clause-err
 returns-in_err-reply-in-Err-pool_path-clause-err g c =

@@ -16,7 +16,7 @@ Stands h moment left (asks want body) = IsFaithful h (call_wanted want body mome
 Stands h moment left asked = ⊤
 
 pub returns : goal.returns
-returns c h bytes gives want other body moment left read it =
-    let same = one_request read.bytes read.used it.read.used (asks want body) (asks other it.body) read.is
-    (subst (λ (b : List ℕ). IsRequest b it.read.used (asks other it.body)) (sym it.read.given ∙ read.given) it.read.is) in
+returns c desk_rules h bytes gives want other body moment left read it =
+    let same = one_request desk_rules read.bytes read.used it.read.used (asks want body) (asks other it.body) read.is
+    (subst (λ (b : List ℕ). IsRequest desk_rules b it.read.used (asks other it.body)) (sym it.read.given ∙ read.given) it.read.is) in
     subst (λ (asked : Asked). Stands h moment left asked) same.1 it.stands

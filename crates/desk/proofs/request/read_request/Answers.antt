@@ -23,12 +23,12 @@ returns-in_err-read_head-clause-err g c =
     on_err c.from_residual.result (record {
       front = c.read_head.new.head.items;
       read = c.read_head.ensures.read;
-      used = head_part c.read_head.new.head.items c.read_head.ensures.earlier c.read_head.ensures.bound;
+      used = head_part c.args.desk.now.rules c.read_head.new.head.items c.read_head.ensures.earlier c.read_head.ensures.bound;
     })
 
 pub returns-in-Err-clause-ok : goal.returns-in-Err-clause-ok
 returns-in-Err-clause-ok g c =
     let ends = rw c.in-EmptyLine.is at c.in_ok-read_head.ensures.ends in
     let asked = rw c.as_slice.ensures.value at c.in-Err.ensures in
-    refused_from_head _ _ c.read_head.new.head.items c.in-Err.refusal c.read_head.ensures.read
+    refused_from_head c.args.desk.now.rules _ _ c.read_head.new.head.items c.in-Err.refusal c.read_head.ensures.read
     (record { ends = ends; first = c.read_head.ensures.earlier; limit = c.read_head.ensures.bound }) asked
