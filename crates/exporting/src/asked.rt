@@ -17,6 +17,8 @@ pub struct Export<'a> {
     pub unsigned: bool,
     /// Whether a state has its texts, and those of the two states before, also by their digests.
     pub by_hash: bool,
+    /// The file of the key that the pages name if `signed` holds.
+    pub key: &'a str,
     /// The path of the archive's database file, empty if it has none. It and what SQLite makes beside it are never written or removed.
     pub database: &'a str,
 }

@@ -7,7 +7,7 @@ ghost use Rattle.queue.specs.Steps.{Reads};
 use crate::asked::{Export, Job, Watcher};
 use crate::fault::ExportFault;
 use crate::mending::mend_states;
-use crate::showing::{make_others, make_steps};
+use crate::showing::{make_unshown_states, take_steps};
 use crate::states::{refuse_named, refuse_signed, wanted_suites};
 use crate::web::{write_index, write_uploads};
 use exported::Manifest;
@@ -54,8 +54,9 @@ struct Done {
     counts: Counts,
 }
 
-/// Makes the steps, and what comes after them. Answers how many paths are left.
-fn make<R: Disk, K: Keeper, T: Watcher>(
+/// Carries out a planned export: takes its steps, makes the states that no suite shows yet, and removes what is left over. Answers how many
+/// paths are left.
+fn carry_out<R: Disk, K: Keeper, T: Watcher>(
     rt: &R,
     archive: &mut Archive<K>,
     job: &Job<'_, R>,
@@ -65,8 +66,8 @@ fn make<R: Disk, K: Keeper, T: Watcher>(
 ) -> Result<usize, ExportFault>
     ensures reads { Reads K.Keeper archive.old.keeper archive.new.keeper }
 {
-    make_steps(rt, archive, job, steps, manifest, watcher)?;
-    make_others(rt, archive, job)?;
+    take_steps(rt, archive, job, steps, manifest, watcher)?;
+    make_unshown_states(rt, archive, job)?;
     let left = leave(rt.alloc(), job.shelves, job.suites, manifest)?;
     save(rt, job.site, manifest)?;
     remove_old_states(rt, job.site, job.suites)?;
@@ -105,8 +106,9 @@ fn found_suites<R: Disk, K: Keeper>(
     Ok(suites)
 }
 
-/// Exports what the shelves of the archive show, but for the pages of the tree.
-fn make_all<R: Disk, K: Keeper, T: Watcher>(
+/// Writes what the shelves show to the tree, but for its first pages: plans the steps, clears what a stopped export left, and carries them
+/// out.
+fn write_tree<R: Disk, K: Keeper, T: Watcher>(
     rt: &R,
     archive: &mut Archive<K>,
     shelves: &Shelves,
@@ -129,7 +131,7 @@ fn make_all<R: Disk, K: Keeper, T: Watcher>(
         is_synced: counts.new <= MOST_SYNCED,
     };
     let gone = prepare(rt, &job, &mut manifest)?;
-    counts.left = make(rt, archive, &job, &steps, &mut manifest, watcher)?;
+    counts.left = carry_out(rt, archive, &job, &steps, &mut manifest, watcher)?;
     Ok(Done {
         suites,
         gone,
@@ -208,8 +210,8 @@ fn print_done<R: Disk, W: io::Write>(
     print_counts(done.counts, out)
 }
 
-/// Exports what the shelves of the archive show, and prints what its suites show.
-fn export_shelves<R: Disk, K: Keeper, W: io::Write, T: Watcher>(
+/// Writes what the shelves show to the tree, then its pages, and prints what the suites show.
+fn write_and_print<R: Disk, K: Keeper, W: io::Write, T: Watcher>(
     rt: &R,
     archive: &mut Archive<K>,
     shelves: &Shelves,
@@ -221,14 +223,14 @@ fn export_shelves<R: Disk, K: Keeper, W: io::Write, T: Watcher>(
     requires in_time { asked.now.at ≤ latest }
     ensures reads { Reads K.Keeper archive.old.keeper archive.new.keeper }
 {
-    let done = make_all(rt, archive, shelves, site, asked, watcher)?;
-    write_index(rt, archive, site, shelves, asked.signed)?;
+    let done = write_tree(rt, archive, shelves, site, asked, watcher)?;
+    write_index(rt, archive, site, shelves, asked)?;
     write_uploads(rt, archive, site, asked.at)?;
     print_done(rt, site, &done, out)
 }
 
-/// Exports what the archive shows.
-fn export_shown<R: Disk, K: Keeper, W: io::Write, T: Watcher>(
+/// Exports into open folders. The keeper lends its shelves, and has them again after that.
+fn export_into<R: Disk, K: Keeper, W: io::Write, T: Watcher>(
     rt: &R,
     archive: &mut Archive<K>,
     site: &Site<R>,
@@ -240,7 +242,7 @@ fn export_shown<R: Disk, K: Keeper, W: io::Write, T: Watcher>(
     ensures reads { Reads K.Keeper archive.old.keeper archive.new.keeper }
 {
     let shelves = archive.keeper.shelves(rt.alloc())?;
-    let done = export_shelves(rt, archive, &shelves, site, asked, out, watcher);
+    let done = write_and_print(rt, archive, &shelves, site, asked, out, watcher);
     archive.keeper.hold(shelves);
     done
 }
@@ -289,5 +291,5 @@ pub fn export<K: Keeper, W: io::Write, T: Watcher>(
     let (root, own) = opened_folders(rt, root)?;
     let _lock = locked(rt, &own)?;
     let site = site_of(rt, root, own, asked)?;
-    export_shown(rt, archive, &site, asked, out, watcher)
+    export_into(rt, archive, &site, asked, out, watcher)
 }

@@ -30,8 +30,8 @@ fn show_suite<R: Disk, K: Keeper>(
     Ok(show_state(rt, job.site, suite)?)
 }
 
-/// Makes a step.
-fn make_step<R: Disk, K: Keeper>(
+/// Takes a step.
+fn take_step<R: Disk, K: Keeper>(
     rt: &R,
     archive: &mut Archive<K>,
     job: &Job<'_, R>,
@@ -47,9 +47,9 @@ fn make_step<R: Disk, K: Keeper>(
     }
 }
 
-/// Makes steps in their order, and reports each to the watcher.
+/// Takes steps in their order, and reports each to the watcher.
 #[tactic(auto, using(keep::proofs::ReadLemmas::reads_none, keep::proofs::ReadLemmas::reads_more))]
-pub fn make_steps<R: Disk, K: Keeper, T: Watcher>(
+pub fn take_steps<R: Disk, K: Keeper, T: Watcher>(
     rt: &R,
     archive: &mut Archive<K>,
     job: &Job<'_, R>,
@@ -61,7 +61,7 @@ pub fn make_steps<R: Disk, K: Keeper, T: Watcher>(
 {
     watcher.is_to_make(steps.len() as u64);
     for step in steps {
-        make_step(rt, archive, job, step, manifest)?;
+        take_step(rt, archive, job, step, manifest)?;
         watcher.has_made();
     }
     watcher.has_ended();
@@ -71,7 +71,7 @@ pub fn make_steps<R: Disk, K: Keeper, T: Watcher>(
 /// Makes the states that wait for a signature. If names by digest are asked for, it adds them to those states, and to the ones that are
 /// shown already.
 #[tactic(auto, using(keep::proofs::ReadLemmas::reads_none, keep::proofs::ReadLemmas::reads_more))]
-pub fn make_others<R: Disk, K: Keeper>(
+pub fn make_unshown_states<R: Disk, K: Keeper>(
     rt: &R,
     archive: &mut Archive<K>,
     job: &Job<'_, R>,

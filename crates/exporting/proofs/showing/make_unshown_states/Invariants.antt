@@ -1,8 +1,8 @@
 -- So far the archive was only read.
 use Rattle.keep.specs.Keeping.{Reads}
-use Rattle.exporting.proofs.showing.make_steps.Given as goal
+use Rattle.exporting.proofs.showing.make_unshown_states.Given as goal
 
-abbrev pub invariant-loop-step : goal.invariant-loop-step
-invariant-loop-step g l =
+abbrev pub invariant-loop-suite : goal.invariant-loop-suite
+invariant-loop-suite g l =
     let k = g.K.Keeper in
     record { reads : Reads k.is_clean k.is_open k.faults k.book k.may_leave l.fn.archive.keeper l.archive.keeper }
