@@ -9,9 +9,10 @@ use Rattle.std.specs.Borrow.{Bor}
 use Rattle.clap.specs.Words.{Row, Text, all_of, first_of}
 use Rattle.keep.specs.Book.{latest}
 use Rattle.usage.specs.Shape.{most_connections}
+use Rattle.command_line.specs.Keys.{is_misnamed, lacks_signed}
 use Rattle.command_line.specs.declared.parsed.Serving.{Serving}
 use Rattle.command_line.specs.declared.parsed.CommandLine.{CommandLine}
-use Rattle.command_line.specs.declared.parsed.CommandLine.TheVariants.{Try, Compare, Check, Init, Ask, Batch, Configure, Migrate, Show, List as Listing, Why, Configuration, Export, Serve}
+use Rattle.command_line.specs.declared.parsed.CommandLine.TheVariants.{Try, Compare, Check, Init, Ask, Batch, Configure, Migrate, Show, List as Listing, Why, Configuration, Status, Export, Serve}
 use Rattle.lists.specs.declared.request.Request.{Request}
 use Rattle.lists.specs.declared.request.Request.TheVariants as request
 
@@ -90,11 +91,12 @@ Asks name rows asked = (db : Bor (List ℕ)) (at : ℕ) → IsTimed rows db at �
 abbrev pub has_both : Bool → Bool → Bool
 has_both signed unsigned = signed && unsigned
 
--- a serving that lacks the folder which `--signed`, `--unsigned` or `--by-hash` is about
+-- a serving that lacks the folder which `--unsigned` or `--by-hash` is about
 abbrev pub lacks_export : Serving → Bool
-lacks_export serving = not (is_some serving.export) && ((serving.signed || serving.unsigned) || serving.by_hash)
+lacks_export serving = not (is_some serving.export) && (serving.unsigned || serving.by_hash)
 
--- the command and each value are those that were found, flags of an export come with its folder, and no flag contradicts another
+-- the command and each value are those that were found, flags of an export come with its folder, a key is named by a name that it can have
+-- and comes with `--signed`, and no flag contradicts another
 abbrev pub IsLine : Option (Text × List Row) → CommandLine → Type 0
 IsLine found (Try paths) = IsNamed found (codes "try") (λ rows. HasPaths rows paths)
 IsLine found (Compare left right) = IsNamed found (codes "compare") (λ rows.
@@ -113,18 +115,22 @@ IsLine found (Migrate from db at conf) = IsNamed found (codes "migrate") (λ row
 IsLine found (Show db path) = IsNamed found (codes "show") (λ rows.
     IsWord (codes "db") rows db × IsWord (codes "PATH") rows path)
 IsLine found (Listing db suite json) = IsNamed found (codes "list") (λ rows.
-    IsWord (codes "db") rows db × IsWord (codes "SUITE") rows suite × (json ≡ is_true (codes "json") rows))
+    IsWord (codes "db") rows db × IsOptionalWord (codes "SUITE") rows suite × (json ≡ is_true (codes "json") rows))
 IsLine found (Why db at name json) = IsNamed found (codes "why") (λ rows.
     IsWord (codes "db") rows db × IsOptionalMoment rows at × IsOptionalWord (codes "NAME") rows name × (json ≡ is_true (codes "json") rows))
 IsLine found (Configuration db) = IsNamed found (codes "configuration") (λ rows. IsWord (codes "db") rows db)
+IsLine found (Status db at) = IsNamed found (codes "status") (λ rows. IsWord (codes "db") rows db × IsMoment rows at)
 IsLine found (Export db exporting) = IsNamed found (codes "export") (λ rows.
     IsWord (codes "db") rows db × IsOptionalMoment rows exporting.at × IsWord (codes "DIR") rows exporting.dir
     × (exporting.signed ≡ is_true (codes "signed") rows) × (exporting.unsigned ≡ is_true (codes "unsigned") rows)
-    × (exporting.by_hash ≡ is_true (codes "by-hash") rows) × (has_both exporting.signed exporting.unsigned ≡ false))
+    × (exporting.by_hash ≡ is_true (codes "by-hash") rows) × IsOptionalWord (codes "key") rows exporting.key
+    × (is_misnamed exporting.key ≡ false) × (lacks_signed exporting.key exporting.signed ≡ false) × (has_both exporting.signed exporting.unsigned ≡ false))
 IsLine found (Serve db serving) = IsNamed found (codes "serve") (λ rows.
     IsWord (codes "db") rows db × IsMoment rows serving.at × IsOptionalWord (codes "moments") rows serving.moments
     × (serving.log ≡ is_true (codes "log") rows) × IsOptionalWord (codes "export") rows serving.export
     × (serving.signed ≡ is_true (codes "signed") rows) × (serving.unsigned ≡ is_true (codes "unsigned") rows)
-    × (serving.by_hash ≡ is_true (codes "by-hash") rows) × (lacks_export serving ≡ false)
-    × (has_both serving.signed serving.unsigned ≡ false) × IsWord (codes "ADDRESS") rows serving.address
+    × (serving.by_hash ≡ is_true (codes "by-hash") rows) × IsOptionalWord (codes "key") rows serving.key
+    × (serving.refuse_origin ≡ is_true (codes "refuse-origin") rows)
+    × (is_misnamed serving.key ≡ false) × (lacks_signed serving.key serving.signed ≡ false)
+    × (lacks_export serving ≡ false) × (has_both serving.signed serving.unsigned ≡ false) × IsWord (codes "ADDRESS") rows serving.address
     × IsNumber (codes "COUNT") rows 1 most_connections serving.count)

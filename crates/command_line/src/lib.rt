@@ -1,6 +1,7 @@
 //! The program's command line: what its words ask for, as clap reads them.
 #![tactic(auto)]
 
+mod keys;
 mod parsed;
 mod readings;
 mod values;

@@ -27,6 +27,8 @@ pub struct Exporting<'a> {
     pub unsigned: bool,
     /// Whether each index text also stands under its SHA-256.
     pub by_hash: bool,
+    /// The file of the key that the pages name, if another was given than box.gpg. It comes with `signed` alone.
+    pub key: Option<&'a str>,
 }
 
 /// How an archive is served.
@@ -40,12 +42,16 @@ pub struct Serving<'a> {
     pub log: bool,
     /// The folder that is exported to after each connection with a POST.
     pub export: Option<&'a str>,
-    /// Whether the export shows a suite only once its new state is signed.
+    /// Whether the pages say that the Releases are signed. The export, if there is one, then shows a suite only once its new state is signed.
     pub signed: bool,
     /// Whether a suite that the export shows signed is shown unsigned from now on.
     pub unsigned: bool,
     /// Whether each index text also stands there under its SHA-256.
     pub by_hash: bool,
+    /// The file of the key that the pages name, if another was given than box.gpg. It comes with `signed` alone.
+    pub key: Option<&'a str>,
+    /// Whether a PUT or POST that a page in a browser sends is refused.
+    pub refuse_origin: bool,
     pub address: &'a str,
     /// How many connections are answered, one after the other.
     pub count: u64,
@@ -110,7 +116,8 @@ pub enum CommandLine<'a> {
     /// Lists what a suite shows.
     List {
         db: &'a str,
-        suite: &'a str,
+        /// The codename of the suite. Without it, the command is about all suites.
+        suite: Option<&'a str>,
         /// Whether each item is a line of JSON.
         json: bool,
     },
@@ -127,6 +134,11 @@ pub enum CommandLine<'a> {
     /// Prints the configuration.
     Configuration {
         db: &'a str,
+    },
+    /// Prints figures of an archive at a moment.
+    Status {
+        db: &'a str,
+        at: u64,
     },
     /// Writes what the suites show into a folder.
     Export {

@@ -4,10 +4,12 @@ ghost use Rattle.std.specs.Prelude.{◌≡◌, codes, IfOk, Some};
 ghost use Rattle.clap.specs.Words.{Text, found_of, rows_of};
 ghost use Rattle.command_line.specs.CommandLines.{Asks, IsLine, IsTimed, has_both as has_both_of, is_true, lacks_export as lacks_export_of};
 
+use crate::keys::{is_misnamed, lacks_signed};
 use crate::parsed::{CommandLine, Exporting, LineFault, Manner, Serving};
 use crate::values::{
-    export_with_both, is_set, lacking, moment, number, optional, optional_moment, paths, required,
-    serve_with_both, sources, without_export,
+    export_misnamed, export_with_both, export_without_signed, is_set, lacking, moment, number,
+    optional, optional_moment, paths, required, serve_misnamed, serve_with_both,
+    serve_without_signed, sources, without_export,
 };
 use clap::ArgMatches;
 use lists::{LineRequest, Request};
@@ -198,7 +200,7 @@ fn read_list<'a>(alloc: Global, found: &ArgMatches<'a>) -> Result<CommandLine<'a
 {
     Ok(CommandLine::List {
         db: required(alloc, found, "db")?,
-        suite: required(alloc, found, "SUITE")?,
+        suite: optional(found, "SUITE"),
         json: is_set(found, "json"),
     })
 }
@@ -242,6 +244,16 @@ fn read_configuration<'a>(
     })
 }
 
+fn read_status<'a>(alloc: Global, found: &ArgMatches<'a>) -> Result<CommandLine<'a>, LineFault>
+    ensures { IfOk result (IsLine (Some (codes "status", rows_of (found_of found.now)))) }
+{
+    let timed = timed(alloc, found)?;
+    Ok(CommandLine::Status {
+        db: timed.db,
+        at: timed.at,
+    })
+}
+
 fn read_export<'a>(alloc: Global, found: &ArgMatches<'a>) -> Result<CommandLine<'a>, LineFault>
     ensures { IfOk result (IsLine (Some (codes "export", rows_of (found_of found.now)))) }
 {
@@ -252,7 +264,14 @@ fn read_export<'a>(alloc: Global, found: &ArgMatches<'a>) -> Result<CommandLine<
         signed: is_set(found, "signed"),
         unsigned: is_set(found, "unsigned"),
         by_hash: is_set(found, "by-hash"),
+        key: optional(found, "key"),
     };
+    if is_misnamed(exporting.key) {
+        return Err(export_misnamed(alloc, exporting.key));
+    }
+    if lacks_signed(exporting.key, exporting.signed) {
+        return Err(export_without_signed(alloc));
+    }
     if has_both(exporting.signed, exporting.unsigned) {
         return Err(export_with_both(alloc));
     }
@@ -266,11 +285,11 @@ fn has_both(signed: bool, unsigned: bool) -> bool
     signed && unsigned
 }
 
-/// Whether a serving lacks the folder that its `--signed`, `--unsigned` or `--by-hash` is about.
+/// Whether a serving lacks the folder that its `--unsigned` or `--by-hash` is about.
 fn lacks_export(serving: &Serving<'_>) -> bool
     ensures { result ≡ lacks_export_of serving.now }
 {
-    serving.export.is_none() && (serving.signed || serving.unsigned || serving.by_hash)
+    serving.export.is_none() && (serving.unsigned || serving.by_hash)
 }
 
 fn read_serve<'a>(alloc: Global, found: &ArgMatches<'a>) -> Result<CommandLine<'a>, LineFault>
@@ -285,9 +304,17 @@ fn read_serve<'a>(alloc: Global, found: &ArgMatches<'a>) -> Result<CommandLine<'
         signed: is_set(found, "signed"),
         unsigned: is_set(found, "unsigned"),
         by_hash: is_set(found, "by-hash"),
+        key: optional(found, "key"),
+        refuse_origin: is_set(found, "refuse-origin"),
         address: required(alloc, found, "ADDRESS")?,
         count: number(alloc, found, "COUNT", 1, MOST_CONNECTIONS)?,
     };
+    if is_misnamed(serving.key) {
+        return Err(serve_misnamed(alloc, serving.key));
+    }
+    if lacks_signed(serving.key, serving.signed) {
+        return Err(serve_without_signed(alloc));
+    }
     if lacks_export(&serving) {
         return Err(without_export(alloc));
     }
@@ -325,6 +352,7 @@ pub fn command_of<'a>(
         "verdicts" => read_verdicts(alloc, found),
         "why" => read_why(alloc, found),
         "configuration" => read_configuration(alloc, found),
+        "status" => read_status(alloc, found),
         "export" => read_export(alloc, found),
         "serve" => read_serve(alloc, found),
         _ => Err(lacking(alloc)),

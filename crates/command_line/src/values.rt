@@ -30,20 +30,37 @@ fn refusal(alloc: Global) -> Result<LineFault, AllocError> {
 const WITHOUT_EXPORT: &str =
     "the following required arguments were not provided:\n  --export <DIR>";
 
+/// What clap says if another argument needs `--signed`.
+const WITHOUT_SIGNED: &str = "the following required arguments were not provided:\n  --signed";
+
 /// What clap says if `--signed` and `--unsigned` are both given.
 const BOTH: &str = "the argument '--signed' cannot be used with '--unsigned'";
 
 /// The refusal of a line of `serve` that has an option of an export, and no `--export`.
 pub fn without_export(alloc: Global) -> LineFault {
-    match serve_refusal(alloc, ErrorKind::MissingRequiredArgument, WITHOUT_EXPORT) {
-        Ok(fault) => fault,
-        Err(_) => LineFault::OutOfMemory,
-    }
+    serve_fault(alloc, ErrorKind::MissingRequiredArgument, WITHOUT_EXPORT)
 }
 
 /// The refusal of a line of `serve` that has both `--signed` and `--unsigned`.
 pub fn serve_with_both(alloc: Global) -> LineFault {
-    match serve_refusal(alloc, ErrorKind::ArgumentConflict, BOTH) {
+    serve_fault(alloc, ErrorKind::ArgumentConflict, BOTH)
+}
+
+/// The refusal of a line of `serve` that has `--key`, and no `--signed`.
+pub fn serve_without_signed(alloc: Global) -> LineFault {
+    serve_fault(alloc, ErrorKind::MissingRequiredArgument, WITHOUT_SIGNED)
+}
+
+/// The refusal of a line of `serve` whose `--key` is no name of a key's file.
+pub fn serve_misnamed(alloc: Global, key: Option<&str>) -> LineFault {
+    match misnamed_text(alloc, key) {
+        Ok(why) => serve_fault(alloc, ErrorKind::ValueValidation, why.as_str()),
+        Err(_) => LineFault::OutOfMemory,
+    }
+}
+
+fn serve_fault(alloc: Global, kind: ErrorKind, why: &str) -> LineFault {
+    match serve_refusal(alloc, kind, why) {
         Ok(fault) => fault,
         Err(_) => LineFault::OutOfMemory,
     }
@@ -57,16 +74,41 @@ fn serve_refusal(alloc: Global, kind: ErrorKind, why: &str) -> Result<LineFault,
 
 /// The refusal of a line of `export` that has both `--signed` and `--unsigned`.
 pub fn export_with_both(alloc: Global) -> LineFault {
-    match export_refusal(alloc) {
+    export_fault(alloc, ErrorKind::ArgumentConflict, BOTH)
+}
+
+/// The refusal of a line of `export` that has `--key`, and no `--signed`.
+pub fn export_without_signed(alloc: Global) -> LineFault {
+    export_fault(alloc, ErrorKind::MissingRequiredArgument, WITHOUT_SIGNED)
+}
+
+/// The refusal of a line of `export` whose `--key` is no name of a key's file.
+pub fn export_misnamed(alloc: Global, key: Option<&str>) -> LineFault {
+    match misnamed_text(alloc, key) {
+        Ok(why) => export_fault(alloc, ErrorKind::ValueValidation, why.as_str()),
+        Err(_) => LineFault::OutOfMemory,
+    }
+}
+
+fn export_fault(alloc: Global, kind: ErrorKind, why: &str) -> LineFault {
+    match export_refusal(alloc, kind, why) {
         Ok(fault) => fault,
         Err(_) => LineFault::OutOfMemory,
     }
 }
 
-fn export_refusal(alloc: Global) -> Result<LineFault, AllocError> {
+fn export_refusal(alloc: Global, kind: ErrorKind, why: &str) -> Result<LineFault, AllocError> {
     let mut command = export_command(alloc)?.bin_name("archive export")?;
-    let error = command.error(ErrorKind::ArgumentConflict, BOTH)?;
+    let error = command.error(kind, why)?;
     Ok(LineFault::Refused(error))
+}
+
+/// What clap says if the value of `--key` is no name of a key's file.
+fn misnamed_text(alloc: Global, key: Option<&str>) -> Result<String, AllocError> {
+    let key = key.unwrap_or("");
+    format!(in alloc;
+        "invalid value '{key}' for '--key <NAME>': it has to end in .gpg, .pgp or .asc, and to be 1 to 100 of A-Z a-z 0-9 . + ~ _ -, the first a letter or digit"
+    )
 }
 
 fn word_value<'a>(found: &ArgMatches<'a>, id: &str) -> Option<&'a str>

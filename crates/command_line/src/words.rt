@@ -31,18 +31,18 @@ use usage::archive_command;
 /// configure --db FILE --at N CONF
 /// migrate --from FILE --db FILE --at N CONF
 /// show --db FILE PATH
-/// list --db FILE [--json] SUITE
+/// list --db FILE [--json] [SUITE]
 /// waiting --db FILE --at N [--json]
 /// verdicts --db FILE [--json]
 /// why --db FILE [--at N] [--json] [NAME]
 /// configuration --db FILE
-/// export --db FILE [--at N] [--signed | --unsigned] [--by-hash] DIR
-/// serve --db FILE --at N [--moments MOMENTS] [--log] [--export DIR] [--signed | --unsigned] [--by-hash] ADDRESS COUNT
+/// export --db FILE [--at N] [--signed [--key NAME] | --unsigned] [--by-hash] DIR
+/// serve --db FILE --at N [--moments MOMENTS] [--log] [--refuse-origin] [--export DIR] [--signed [--key NAME] | --unsigned] [--by-hash] ADDRESS COUNT
 /// ```
 ///
-/// in which `PATH..` is one path or more, `[SOURCE..]` any number of sources, N is 0 to 4102444799 and COUNT 1 to 1000000. It is refused
-/// with the text of the help or the version if that was asked for, or else with one that says why the words are not a line. If there are no
-/// words, that is the help.
+/// in which `PATH..` is one path or more, `[SOURCE..]` any number of sources, N is 0 to 4102444799 and COUNT 1 to 1000000, and the NAME of a
+/// key's file ends in .gpg, .pgp or .asc. It is refused with the text of the help or the version if that was asked for, or else with one
+/// that says why the words are not a line. If there are no words, that is the help.
 pub fn line<'a>(alloc: Global, words: &'a [&'a str]) -> Result<CommandLine<'a>, LineFault>
     ensures said { IfOk result (IsLine (subcommand_of archive_app (map (λ word. word.now) words.entry.now))) }
     // Only words in which clap finds no fault are a line.

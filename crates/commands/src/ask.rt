@@ -5,12 +5,13 @@ use crate::fault::{Stop, all_taken};
 use crate::print;
 use crate::progress::Progress;
 use crate::slips::{may_change, tell_early};
-use crate::why::{Asked, tell};
+use crate::told::{of_suite, of_uploads, print_told};
 use crate::words::Words;
 use command_line::{LineRequest, Manner, Request};
 use keep::Keeper;
 use queue::Archive;
 use std::io::Write;
+use telling::Question;
 
 /// Delivers files, shows how many of their bytes are delivered, and says whether all were taken.
 fn put<'a, K: Keeper, W: Write, E: Write>(
@@ -93,21 +94,34 @@ pub fn show_file<'a, K: Keeper + Drop, F: InFile<K>, W: Write>(
     done
 }
 
-/// Prints a line for each item that a suite of the archive of a database file shows, or an object of JSON. If no suite has the codename,
-/// there are words for the refusal.
+/// Prints what suites of the archive of a database file show, an item a line. If no suite has the codename, there are words for the refusal.
 pub fn list_file<'a, K: Keeper + Drop, F: InFile<K>, W: Write>(
     rt: &HostRuntime,
     db: &str,
-    suite: &str,
+    suite: Option<&str>,
     json: bool,
     out: &mut W,
     words: &mut Words,
 ) -> Result<(), Stop<'a>> {
+    let question = of_suite(rt.alloc(), suite, json)?;
     let mut archive = open_shown::<K, F>(rt, db)?;
-    let done = print::list(rt.alloc(), &mut archive, suite, json, out);
-    if let Err(stop) = &done {
+    let done = print_told(rt.alloc(), &mut archive, &question, 0, out);
+    if let (Some(suite), Err(stop)) = (suite, &done) {
         words.find_for_suite(rt.alloc(), &archive, suite, stop);
     }
+    close::<K, F>(archive);
+    done
+}
+
+/// Prints the answer of the archive of a database file at a moment, in seconds since 1970-01-01 00:00:00 UTC.
+fn tell_file<'a, K: Keeper + Drop, F: InFile<K>, W: Write>(
+    rt: &HostRuntime,
+    opening: Opening<'_>,
+    question: &Question,
+    out: &mut W,
+) -> Result<(), Stop<'a>> {
+    let mut archive = open_shown::<K, F>(rt, opening.db)?;
+    let done = print_told(rt.alloc(), &mut archive, question, opening.at, out);
     close::<K, F>(archive);
     done
 }
@@ -115,14 +129,13 @@ pub fn list_file<'a, K: Keeper + Drop, F: InFile<K>, W: Write>(
 /// Prints why uploads to the archive of a database file have their verdicts, and what the waiting uploads lack.
 pub fn why_file<'a, K: Keeper + Drop, F: InFile<K>, W: Write>(
     rt: &HostRuntime,
-    db: &str,
-    asked: Asked<'_>,
+    opening: Opening<'_>,
+    name: Option<&str>,
+    json: bool,
     out: &mut W,
 ) -> Result<(), Stop<'a>> {
-    let mut archive = open_shown::<K, F>(rt, db)?;
-    let done = tell(rt.alloc(), &mut archive, asked, out);
-    close::<K, F>(archive);
-    done
+    let question = of_uploads(rt.alloc(), name, json)?;
+    tell_file::<K, F, W>(rt, opening, &question, out)
 }
 
 /// Prints the text of the configuration of the archive of a database file.
@@ -131,8 +144,14 @@ pub fn configuration_file<'a, K: Keeper + Drop, F: InFile<K>, W: Write>(
     db: &str,
     out: &mut W,
 ) -> Result<(), Stop<'a>> {
-    let archive = open_shown::<K, F>(rt, db)?;
-    let done = print::configuration(&archive, out);
-    close::<K, F>(archive);
-    done
+    tell_file::<K, F, W>(rt, Opening { db, at: 0 }, &Question::Configuration, out)
+}
+
+/// Prints figures of the archive of a database file at a moment.
+pub fn status_file<'a, K: Keeper + Drop, F: InFile<K>, W: Write>(
+    rt: &HostRuntime,
+    opening: Opening<'_>,
+    out: &mut W,
+) -> Result<(), Stop<'a>> {
+    tell_file::<K, F, W>(rt, opening, &Question::Status, out)
 }

@@ -14,7 +14,7 @@ mod line;
 mod print;
 pub mod progress;
 pub mod slips;
-mod why;
+mod told;
 pub mod words;
 
 pub use line::{done, explain};

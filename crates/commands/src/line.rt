@@ -1,13 +1,12 @@
 //! What the program does for a line that neither exports nor serves, and what it says if the words are no line.
 
-use crate::ask::{ask_file, configuration_file, list_file, show_file, why_file};
+use crate::ask::{ask_file, configuration_file, list_file, show_file, status_file, why_file};
 use crate::batch::batch_file;
 use crate::configured::{check, configure, init, migrate};
 use crate::database::{InFile, Opening};
 use crate::escaped::Escaped;
 use crate::fault::{Stop, all_taken};
 use crate::files::{body_of, file_name, most_read};
-use crate::why::Asked;
 use crate::words::Words;
 use command_line::{CommandLine, LineFault, line};
 use keep::{Keeper, PlainKeeper};
@@ -131,13 +130,18 @@ fn asked<'a, K: Keeper + Drop, F: InFile<K>, W: Write, E: Write>(
         } => batch_file::<K, F, W, E>(rt, Opening { db, at: *at }, list, *strict, out, err),
         CommandLine::Show { db, path } => all_taken(show_file::<K, F, W>(rt, db, path, out)),
         CommandLine::List { db, suite, json } => {
-            all_taken(list_file::<K, F, W>(rt, db, suite, *json, out, words))
+            all_taken(list_file::<K, F, W>(rt, db, *suite, *json, out, words))
         }
         CommandLine::Why { db, at, name, json } => {
-            all_taken(why_file::<K, F, W>(rt, db, Asked::new(*at, *name, *json), out))
+            // Without a moment, all that arrived and was not cleaned counts.
+            let at = at.unwrap_or(0);
+            all_taken(why_file::<K, F, W>(rt, Opening { db, at }, *name, *json, out))
         }
         CommandLine::Configuration { db } => {
             all_taken(configuration_file::<K, F, W>(rt, db, out))
+        }
+        CommandLine::Status { db, at } => {
+            all_taken(status_file::<K, F, W>(rt, Opening { db, at: *at }, out))
         }
         _ => Ok(true),
     }

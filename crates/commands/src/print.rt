@@ -1,7 +1,6 @@
 //! What the program prints of an archive, over any keeper.
 
-ghost use Rattle.std.specs.Prelude.{◌≡◌, ◌⊎◌, ◌≤◌, true, false, OnOk, OnErr, IfErr, IfOk, Some};
-ghost use Rattle.std.specs.Io.KnownBytes.{Appends};
+ghost use Rattle.std.specs.Prelude.{◌≡◌, ◌⊎◌, ◌≤◌, true, false, OnOk, OnErr, IfErr};
 ghost use Rattle.keep.specs.Book.{latest};
 ghost use Rattle.keep.specs.Configured.{configured, keeps_shown};
 ghost use Rattle.keep.specs.Keeping.{MayAnswer};
@@ -9,7 +8,6 @@ ghost use Rattle.keep.specs.declared.fault.KeepFault.{KeepFault as KeepersFault}
 ghost use Rattle.keep.specs.declared.fault.KeepFault.TheVariants.{Configuration as NotKept};
 ghost use Rattle.queue.specs.Configuring.{Endures, LeavesConfigured};
 ghost use Rattle.queue.specs.Steps.{IsUndone, Reads};
-ghost use Rattle.rules.specs.Suites.{suite_named};
 ghost use Rattle.commands.specs.declared.fault.Stop.TheVariants.{NoArchive};
 
 use crate::database::{Opening, is_of_database, length_of};
@@ -17,14 +15,14 @@ use crate::escaped::Escaped;
 use crate::fault::Stop;
 use crate::files::{body_of, file_name, most_read, opened};
 use crate::progress::Progress;
-use keep::{FilePiece, KeepFault, Keeper, LATEST};
-use output::listing::{shown_json, shown_lines, verdict_json, waiting_json};
+use crate::told::print_told;
+use keep::{FilePiece, KeepFault, Keeper};
 use queue::{Archive, Arrived, Fault, Promotion, Report};
 use rules::Config;
 use std::alloc::{AllocError, Global};
 use std::io::{self, BufWriter, Write};
 use std::rt::Files;
-use suites::Shelves;
+use telling::Question;
 
 /// The number of bytes of lines that are collected before they are written.
 const MOST_TOGETHER: usize = 65_536;
@@ -334,21 +332,6 @@ pub fn show<'a, K: Keeper, W: Write>(
     show_rest(alloc, archive, path, left, out)
 }
 
-/// An object of JSON for each upload that has no verdict, by what counts at a moment.
-fn waiting_objects<K: Keeper>(
-    alloc: Global,
-    archive: &mut Archive<K>,
-    at: u64,
-) -> Result<Vec<String>, Fault>
-    ensures reads { Reads K.Keeper archive.old.keeper archive.new.keeper }
-{
-    if at > LATEST {
-        return Err(Fault::Moment);
-    }
-    let uploads = archive.keeper.waiting(alloc, at)?;
-    Ok(waiting_json(alloc, &uploads)?)
-}
-
 /// Prints a line for each upload that has no verdict, or an object of JSON.
 pub fn waiting<'a, K: Keeper, W: Write>(
     alloc: Global,
@@ -360,19 +343,11 @@ pub fn waiting<'a, K: Keeper, W: Write>(
     ensures reads { Reads K.Keeper archive.old.keeper archive.new.keeper }
 {
     if json {
-        print_lines(alloc, &waiting_objects(alloc, archive, at)?, out)?;
+        print_told(alloc, archive, &Question::Waiting, at, out)?;
     } else {
         print_report(alloc, &archive.waiting(alloc, at)?, out)?;
     }
     Ok(())
-}
-
-/// An object of JSON for each upload that runs have judged.
-fn verdict_objects<K: Keeper>(alloc: Global, archive: &mut Archive<K>) -> Result<Vec<String>, Fault>
-    ensures reads { Reads K.Keeper archive.old.keeper archive.new.keeper }
-{
-    let judged = archive.keeper.verdicts(alloc)?;
-    Ok(verdict_json(alloc, &judged)?)
 }
 
 /// Prints the lines of all runs, or an object of JSON for each upload that they judged.
@@ -385,57 +360,10 @@ pub fn verdicts<'a, K: Keeper, W: Write>(
     ensures reads { Reads K.Keeper archive.old.keeper archive.new.keeper }
 {
     if json {
-        print_lines(alloc, &verdict_objects(alloc, archive)?, out)?;
+        print_told(alloc, archive, &Question::Verdicts, 0, out)?;
     } else {
         print_report(alloc, &archive.verdicts(alloc)?, out)?;
     }
-    Ok(())
-}
-
-/// What a suite shows, by its codename, and its position in the configuration. It is refused for a codename that no suite has.
-fn shelves_of<K: Keeper>(
-    alloc: Global,
-    archive: &mut Archive<K>,
-    suite: &str,
-) -> Result<(usize, Shelves), Fault>
-    ensures reads { Reads K.Keeper archive.old.keeper archive.new.keeper }
-    ensures place { IfOk result (λ found. suite_named (K.book archive.old.keeper).config.suites suite.now ≡ Some found.0) }
-    ensures shelves { K.is_clean archive.new.keeper → IfOk result (λ found. found.1 ≡ (K.book archive.old.keeper).shown) }
-{
-    let Some(place) = archive.keeper.config().suite_named(suite) else {
-        return Err(Fault::UnknownSuite);
-    };
-    let shelves = archive.keeper.shelves(alloc)?;
-    Ok((place, shelves))
-}
-
-/// A line for each item that the suite at a position shows, or an object of JSON.
-fn shown_texts(
-    alloc: Global,
-    shelves: &Shelves,
-    place: usize,
-    json: bool,
-) -> Result<Vec<String>, AllocError> {
-    if json {
-        shown_json(alloc, shelves, place)
-    } else {
-        shown_lines(alloc, shelves, place)
-    }
-}
-
-/// Prints a line for each item that a suite shows, by its codename, or an object of JSON. It is refused for a codename that no suite has.
-pub fn list<'a, K: Keeper, W: Write>(
-    alloc: Global,
-    archive: &mut Archive<K>,
-    suite: &str,
-    json: bool,
-    out: &mut W,
-) -> Result<(), Stop<'a>>
-    ensures reads { Reads K.Keeper archive.old.keeper archive.new.keeper }
-{
-    let (place, shelves) = shelves_of(alloc, archive, suite)?;
-    let texts = shown_texts(alloc, &shelves, place, json)?;
-    print_lines(alloc, &texts, out)?;
     Ok(())
 }
 
@@ -465,15 +393,4 @@ pub fn configure<'a, K: Keeper>(
         Ok(()) => Ok(()),
         Err(fault) => Err(Stop::NoArchive(fault)),
     }
-}
-
-/// Prints the text of the configuration, byte for byte.
-pub fn configuration<'a, K: Keeper, W: Write>(
-    archive: &Archive<K>,
-    out: &mut W,
-) -> Result<(), Stop<'a>>
-    ensures written { OnOk result (Appends (W.contents out.old) (W.contents out.new) (K.book archive.now.keeper).config.text) }
-{
-    out.write_all(archive.keeper.config().text())?;
-    Ok(())
 }

@@ -247,6 +247,7 @@ fn database_of<'a>(line: &CommandLine<'a>) -> Option<&'a str> {
         | CommandLine::List { db, .. }
         | CommandLine::Why { db, .. }
         | CommandLine::Configuration { db, .. }
+        | CommandLine::Status { db, .. }
         | CommandLine::Export { db, .. }
         | CommandLine::Serve { db, .. } => Some(db),
     }

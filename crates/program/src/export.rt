@@ -1,5 +1,8 @@
 //! The archive of a database file, exported into a folder.
 
+ghost use Rattle.std.specs.Prelude.{◌≡◌};
+ghost use Rattle.program.specs.Keys.{key_name};
+
 use command_line::Exporting;
 use commands::database::{InFile, close, open_shown};
 use commands::escaped::OwnedEscaped;
@@ -7,6 +10,7 @@ use commands::fault::Stop;
 use commands::progress::Progress;
 use exporting::{Export, ExportFault, Watcher};
 use keep::Keeper;
+use pages::KEY;
 use queue::Fault;
 use std::io::Write;
 
@@ -50,6 +54,32 @@ fn told<'a>(done: Result<(), ExportFault>) -> Result<(), Stop<'a>> {
     }
 }
 
+/// The file of the key that the pages name: the one that was given, else box.gpg.
+pub fn key_name<'a>(key: Option<&'a str>) -> &'a str
+    ensures { result.now ≡ key_name key.entry }
+{
+    match key {
+        Some(name) => name,
+        None => KEY,
+    }
+}
+
+/// What is asked of an export of the archive of a database file.
+fn export_of<'a>(db: &'a str, asked: &Exporting<'a>) -> Export<'a>
+    ensures signed { result.signed ≡ asked.now.signed }
+    ensures key { result.key.now ≡ key_name asked.now.key }
+{
+    Export {
+        folder: asked.dir,
+        at: asked.at.unwrap_or(0),
+        signed: asked.signed,
+        unsigned: asked.unsigned,
+        by_hash: asked.by_hash,
+        key: key_name(asked.key),
+        database: db,
+    }
+}
+
 /// Exports what the suites of the archive of a database file show into a folder, and prints what became of each suite and of the pool. Its
 /// progress is shown on standard error, if that is a terminal.
 pub fn export_file<'a, K: Keeper + Drop, F: InFile<K>, W: Write>(
@@ -59,14 +89,7 @@ pub fn export_file<'a, K: Keeper + Drop, F: InFile<K>, W: Write>(
     out: &mut W,
 ) -> Result<(), Stop<'a>> {
     let mut archive = open_shown::<K, F>(rt, db)?;
-    let export = Export {
-        folder: asked.dir,
-        at: asked.at.unwrap_or(0),
-        signed: asked.signed,
-        unsigned: asked.unsigned,
-        by_hash: asked.by_hash,
-        database: db,
-    };
+    let export = export_of(db, &asked);
     let mut err = rt.stderr();
     let mut steps = Steps {
         progress: Progress::new(rt, &mut err, "export", "steps"),

@@ -15,6 +15,7 @@
 
 ghost use Rattle.std.specs.Prelude.{◌≡◌, ◌≤◌, ℕ, All, None, length};
 ghost use Rattle.desk.specs.Connections.{HasServed, IsClientsWithin};
+ghost use Rattle.desk.specs.Want.{no_rules};
 ghost use Rattle.program.specs.Ends.{end_of, first_end};
 ghost use Rattle.queue.specs.Steps.{Reads};
 
@@ -84,14 +85,16 @@ pub fn serve<'a, R: Clock + Files + AllocGlobal, K: Keeper>(
 ) -> Result<(), Stop<'a>>
     // Whatever clients send, and whenever they leave, the archive is as `attend` leaves it after some list of at most `count` connections
     // at the moment. That their readers give what a client sends and nothing else is said by their types (`FromOutside`), and by no clause.
-    ensures served { HasServed K.Keeper count (IsClientsWithin moment moment) archive.old.keeper archive.new.keeper }
+    ensures served { HasServed K.Keeper count (IsClientsWithin no_rules moment moment) archive.old.keeper archive.new.keeper }
 {
     keep_room(rt.alloc());
     let mut moments = Moments::new(moment, None);
     let mut unread = Vec::<u8>::new(rt.alloc());
     let mut notes = Notes::new(Log::new(&mut unread, None), false);
+    let desk = Desk::new(rt.alloc())?;
     serve_at(
         rt,
+        &desk,
         archive,
         listener,
         count,
@@ -101,9 +104,11 @@ pub fn serve<'a, R: Clock + Files + AllocGlobal, K: Keeper>(
     )
 }
 
-/// Answers `count` connections of a listener as `serve` does, but at these moments, with this patience, and with notes of each connection.
+/// Answers `count` connections of a listener as `serve` does, but by this desk, at these moments, with this patience, and with notes of
+/// each connection.
 pub fn serve_at<'a, R: Clock + Files + AllocGlobal, K: Keeper, E: Write>(
     rt: &R,
+    desk: &Desk,
     archive: &mut Archive<K>,
     listener: &TcpListener,
     count: u64,
@@ -112,12 +117,11 @@ pub fn serve_at<'a, R: Clock + Files + AllocGlobal, K: Keeper, E: Write>(
     notes: &mut Notes<'_, E>,
 ) -> Result<(), Stop<'a>>
     // Each connection has a moment that `moments` has now or had on the way, and none is before that of an earlier connection.
-    ensures served { HasServed K.Keeper count (IsClientsWithin moments.old.greatest moments.new.greatest) archive.old.keeper archive.new.keeper }
+    ensures served { HasServed K.Keeper count (IsClientsWithin desk.now.rules moments.old.greatest moments.new.greatest) archive.old.keeper archive.new.keeper }
     ensures rises { moments.old.greatest ≤ moments.new.greatest }
     ensures still { moments.old.file ≡ None → moments.new.greatest ≡ moments.old.greatest }
     ensures file { moments.new.file ≡ moments.old.file }
 {
-    let desk = Desk::new(rt.alloc())?;
     for served in 0..count {
         match accepted(rt, listener) {
             // How the connection ends concerns its client alone.
@@ -125,7 +129,7 @@ pub fn serve_at<'a, R: Clock + Files + AllocGlobal, K: Keeper, E: Write>(
                 let moment = moments.next(rt);
                 let visit = Visit {
                     rt,
-                    desk: &desk,
+                    desk,
                     stream: &stream,
                     moment,
                     patience,
@@ -180,7 +184,7 @@ fn leaves_shut<R: Clock + AllocGlobal, K: Keeper, E: Write>(
     archive: &mut Archive<K>,
     notes: &mut Notes<'_, E>,
 ) -> bool
-    ensures served { HasServed K.Keeper 1 (IsClientsWithin visit.now.moment visit.now.moment) archive.old.keeper archive.new.keeper }
+    ensures served { HasServed K.Keeper 1 (IsClientsWithin visit.now.desk.now.rules visit.now.moment visit.now.moment) archive.old.keeper archive.new.keeper }
 {
     let end = answer_client(visit, archive, notes);
     if !is_insufficient_storage(&end) {
@@ -218,7 +222,7 @@ fn answer_client<R: Clock + AllocGlobal, K: Keeper, E: Write>(
     archive: &mut Archive<K>,
     notes: &mut Notes<'_, E>,
 ) -> io::Result<Result<Served, DeskFault>>
-    ensures served { HasServed K.Keeper 1 (IsClientsWithin visit.now.moment visit.now.moment) archive.old.keeper archive.new.keeper }
+    ensures served { HasServed K.Keeper 1 (IsClientsWithin visit.now.desk.now.rules visit.now.moment visit.now.moment) archive.old.keeper archive.new.keeper }
 {
     let rt = visit.rt;
     let client = Client {
@@ -258,7 +262,7 @@ fn answered<R: Clock + AllocGlobal, K: Keeper>(
     line: &mut FirstLine,
     sent: &Cell<u64>,
 ) -> Result<Served, DeskFault>
-    ensures served { HasServed K.Keeper 1 (IsClientsWithin visit.now.moment visit.now.moment) archive.old.keeper archive.new.keeper }
+    ensures served { HasServed K.Keeper 1 (IsClientsWithin visit.now.desk.now.rules visit.now.moment visit.now.moment) archive.old.keeper archive.new.keeper }
 {
     let source = ClientStream {
         client,
@@ -280,7 +284,7 @@ fn replied<R: Clock + AllocGlobal, K: Keeper, I: Read + FromOutside>(
     sent: &Cell<u64>,
 ) -> Result<Served, DeskFault>
     requires foreign { I.remaining reader.old ≡ None }
-    ensures served { HasServed K.Keeper 1 (IsClientsWithin visit.now.moment visit.now.moment) archive.old.keeper archive.new.keeper }
+    ensures served { HasServed K.Keeper 1 (IsClientsWithin visit.now.desk.now.rules visit.now.moment visit.now.moment) archive.old.keeper archive.new.keeper }
 {
     let alloc = visit.rt.alloc();
     let writer = ToClient { client, sent };
@@ -337,7 +341,7 @@ fn attended<K: Keeper, R: Read + FromOutside, W: Write>(
     connections: &mut [Connection<R, W>],
 ) -> Result<Served, DeskFault>
     ensures served { (moment : ℕ) → All (λ one. (R.remaining one.reader ≡ None) × (one.moment ≡ moment)) connections.old
-        → HasServed K.Keeper (length connections.old) (IsClientsWithin moment moment) archive.old.keeper archive.new.keeper }
+        → HasServed K.Keeper (length connections.old) (IsClientsWithin desk.now.rules moment moment) archive.old.keeper archive.new.keeper }
     ensures end { result ≡ first_end connections.new }
 {
     attend(alloc, desk, archive, connections);

@@ -12,11 +12,13 @@
 //! the fault of the database is reported. A `Desk` is made after each opening. If there is no memory for it, `serve` ends with Q0 and
 //! status 3, before a connection is accepted.
 
-ghost use Rattle.std.specs.Prelude.{◌≡◌, ◌≤◌, None};
+ghost use Rattle.std.specs.Prelude.{◌≡◌, ◌≤◌, IfOk, None, option_map, string_bytes};
 ghost use Rattle.desk.specs.Connections.{HasServed, IsClientsWithin};
 ghost use Rattle.queue.specs.Steps.{Reads};
+ghost use Rattle.program.specs.Keys.{key_name, signing_key};
 
 use crate::database::{InFile, close, open_archive};
+use crate::export::key_name;
 use crate::fault::Stop;
 use crate::log::Log;
 use crate::moments::Moments;
@@ -24,10 +26,12 @@ use crate::notes::Notes;
 use crate::serving::{keep_room, patience, serve_at};
 use command_line::Serving;
 use commands::slips::early_lines;
+use desk::Desk;
+use desk::routes::Rules;
 use exporting::{Export, Nobody};
 use keep::Keeper;
 use queue::Archive;
-use std::alloc::Global;
+use std::alloc::{AllocError, Global};
 use std::io::{self, Write};
 use std::net::TcpListener;
 use std::os::fd::AsFd;
@@ -35,32 +39,43 @@ use std::os::fd::AsFd;
 /// Serves `left` connections of a listener, or fails with `CannotListen` if there is none.
 fn serve_listener<'a, K: Keeper, E: Write>(
     rt: &HostRuntime,
+    desk: &Desk,
     archive: &mut Archive<K>,
     listener: &io::Result<TcpListener>,
     left: u64,
     moments: &mut Moments<'_>,
     notes: &mut Notes<'_, E>,
 ) -> Result<(), Stop<'a>>
-    ensures served { HasServed K.Keeper left (IsClientsWithin moments.old.greatest moments.new.greatest) archive.old.keeper archive.new.keeper }
+    ensures served { HasServed K.Keeper left (IsClientsWithin desk.now.rules moments.old.greatest moments.new.greatest) archive.old.keeper archive.new.keeper }
     ensures rises { moments.old.greatest ≤ moments.new.greatest }
     ensures still { moments.old.file ≡ None → moments.new.greatest ≡ moments.old.greatest }
     ensures file { moments.new.file ≡ moments.old.file }
 {
     match listener {
-        Ok(listener) => serve_at(rt, archive, listener, left, moments, patience(), notes),
+        Ok(listener) => serve_at(
+            rt,
+            desk,
+            archive,
+            listener,
+            left,
+            moments,
+            patience(),
+            notes,
+        ),
         Err(_) => Err(Stop::CannotListen),
     }
 }
 
 /// A folder that is exported to, and how: whether a suite is shown there only once its new state is signed, whether one that is shown there
-/// signed is shown unsigned from now on, and whether each index text also stands there under its digest. `database` is the database file of
-/// the archive.
+/// signed is shown unsigned from now on, and whether each index text also stands there under its digest. `key` is the file of the key that
+/// its pages name if it is signed, and `database` the database file of the archive.
 #[derive(Clone, Copy)]
 struct Tree<'t> {
     folder: &'t str,
     is_signed: bool,
     is_unsigned: bool,
     is_by_hash: bool,
+    key: &'t str,
     database: &'t str,
 }
 
@@ -80,6 +95,7 @@ fn export_to<K: Keeper, E: Write>(
         signed: tree.is_signed,
         unsigned: tree.is_unsigned,
         by_hash: tree.is_by_hash,
+        key: tree.key,
         database: tree.database,
     };
     if let Err(fault) = exporting::export(rt, archive, &asked, &mut io::sink(), &mut Nobody) {
@@ -93,18 +109,19 @@ fn export_to<K: Keeper, E: Write>(
 /// Serves a connection of a listener, and exports after it if it may have changed what suites show.
 fn serve_one<'a, K: Keeper, E: Write>(
     rt: &HostRuntime,
+    desk: &Desk,
     archive: &mut Archive<K>,
     listener: &io::Result<TcpListener>,
     moments: &mut Moments<'_>,
     tree: Tree<'_>,
     notes: &mut Notes<'_, E>,
 ) -> Result<(), Stop<'a>>
-    ensures served { HasServed K.Keeper 1 (IsClientsWithin moments.old.greatest moments.new.greatest) archive.old.keeper archive.new.keeper }
+    ensures served { HasServed K.Keeper 1 (IsClientsWithin desk.now.rules moments.old.greatest moments.new.greatest) archive.old.keeper archive.new.keeper }
     ensures rises { moments.old.greatest ≤ moments.new.greatest }
     ensures still { moments.old.file ≡ None → moments.new.greatest ≡ moments.old.greatest }
     ensures file { moments.new.file ≡ moments.old.file }
 {
-    serve_listener(rt, archive, listener, 1, moments, notes)?;
+    serve_listener(rt, desk, archive, listener, 1, moments, notes)?;
     if notes.takes_change() {
         export_to(rt, archive, tree, moments.last(), notes);
     }
@@ -114,6 +131,7 @@ fn serve_one<'a, K: Keeper, E: Write>(
 /// Serves `left` connections of a listener, one by one, and exports after each that may have changed what suites show.
 fn serve_and_export<'a, K: Keeper, E: Write>(
     rt: &HostRuntime,
+    desk: &Desk,
     archive: &mut Archive<K>,
     listener: &io::Result<TcpListener>,
     left: u64,
@@ -122,19 +140,82 @@ fn serve_and_export<'a, K: Keeper, E: Write>(
     notes: &mut Notes<'_, E>,
 ) -> Result<(), Stop<'a>>
     // The connections are served as without an export, which only reads.
-    ensures served { HasServed K.Keeper left (IsClientsWithin moments.old.greatest moments.new.greatest) archive.old.keeper archive.new.keeper }
+    ensures served { HasServed K.Keeper left (IsClientsWithin desk.now.rules moments.old.greatest moments.new.greatest) archive.old.keeper archive.new.keeper }
     ensures rises { moments.old.greatest ≤ moments.new.greatest }
     ensures still { moments.old.file ≡ None → moments.new.greatest ≡ moments.old.greatest }
     ensures file { moments.new.file ≡ moments.old.file }
 {
     for served in 0..left {
-        match serve_one(rt, archive, listener, moments, tree, notes) {
+        match serve_one(rt, desk, archive, listener, moments, tree, notes) {
             Ok(()) => {}
             Err(Stop::Shut(_)) => return Err(Stop::Shut(left - served - 1)),
             Err(stop) => return Err(stop),
         }
     }
     Ok(())
+}
+
+/// How an archive is served: whether a PUT or POST that a page in a browser sends is refused, the file of the key that its pages name, if
+/// they say that the Releases are signed, and the folder to which it is exported meanwhile, if to any.
+#[derive(Clone, Copy)]
+struct Service<'t> {
+    refuses_origin: bool,
+    key: Option<&'t str>,
+    tree: Option<Tree<'t>>,
+}
+
+/// The file of the key that the pages of a served archive name, if they say that the Releases are signed.
+fn signing_key<'t>(is_signed: bool, key: Option<&'t str>) -> Option<&'t str>
+    ensures { option_map (λ name. name.now) result ≡ signing_key is_signed key.entry }
+{
+    if !is_signed {
+        return None;
+    }
+    Some(key_name(key))
+}
+
+/// What a desk goes by that refuses a PUT or POST which a page in a browser sends, or one that does not, and whose pages name this key, if
+/// any.
+fn rules_of(alloc: Global, refuses_origin: bool, key: Option<&str>) -> Result<Rules, AllocError>
+    ensures refuses { IfOk result (λ rules. rules.refuses_origin ≡ refuses_origin) }
+    ensures key { IfOk result (λ rules. option_map string_bytes rules.key ≡ option_map (λ name. name.now) key.entry) }
+{
+    let key = match key {
+        Some(name) => Some(String::from_str(alloc, name)?),
+        None => None,
+    };
+    Ok(Rules {
+        refuses_origin,
+        key,
+    })
+}
+
+/// A desk that goes by such rules.
+fn desk_of(alloc: Global, refuses_origin: bool, key: Option<&str>) -> Result<Desk, AllocError>
+    ensures refuses { IfOk result (λ desk. desk.rules.refuses_origin ≡ refuses_origin) }
+    ensures key { IfOk result (λ desk. option_map string_bytes desk.rules.key ≡ option_map (λ name. name.now) key.entry) }
+{
+    let rules = rules_of(alloc, refuses_origin, key)?;
+    Desk::with_rules(alloc, rules)
+}
+
+/// Serves `left` connections by a desk, and exports after each that may have changed what suites show, if there is a folder for that.
+fn serve_by<'a, K: Keeper, E: Write>(
+    rt: &HostRuntime,
+    desk: &Desk,
+    archive: &mut Archive<K>,
+    listener: &io::Result<TcpListener>,
+    left: u64,
+    moments: &mut Moments<'_>,
+    tree: Option<Tree<'_>>,
+    notes: &mut Notes<'_, E>,
+) -> Result<(), Stop<'a>>
+    ensures served { HasServed K.Keeper left (IsClientsWithin desk.now.rules moments.old.greatest moments.new.greatest) archive.old.keeper archive.new.keeper }
+{
+    match tree {
+        Some(tree) => serve_and_export(rt, desk, archive, listener, left, moments, tree, notes),
+        None => serve_listener(rt, desk, archive, listener, left, moments, notes),
+    }
 }
 
 /// Serves `left` connections over an archive, and closes it. Answers how many are left if its keeper is shut before the last, and else 0.
@@ -144,12 +225,23 @@ fn serve_some<'a, K: Keeper + Drop, F: InFile<K>, E: Write>(
     listener: &io::Result<TcpListener>,
     left: u64,
     moments: &mut Moments<'_>,
-    tree: Option<Tree<'_>>,
+    service: Service<'_>,
     notes: &mut Notes<'_, E>,
 ) -> Result<u64, Stop<'a>> {
-    let served = match tree {
-        Some(tree) => serve_and_export(rt, &mut archive, listener, left, moments, tree, notes),
-        None => serve_listener(rt, &mut archive, listener, left, moments, notes),
+    let served = match desk_of(rt.alloc(), service.refuses_origin, service.key) {
+        Ok(desk) => {
+            serve_by(
+                rt,
+                &desk,
+                &mut archive,
+                listener,
+                left,
+                moments,
+                service.tree,
+                notes,
+            )
+        }
+        Err(error) => Err(Stop::from(error)),
     };
     close::<K, F>(archive);
     match served {
@@ -174,11 +266,11 @@ fn serve_again<'a, K: Keeper + Drop, F: InFile<K>, E: Write>(
     listener: &io::Result<TcpListener>,
     left: u64,
     moments: &mut Moments<'_>,
-    tree: Option<Tree<'_>>,
+    service: Service<'_>,
     notes: &mut Notes<'_, E>,
 ) -> Result<u64, Stop<'a>> {
     let archive = open_archive::<K, F>(rt, db)?;
-    serve_some::<K, F, E>(rt, archive, listener, left, moments, tree, notes)
+    serve_some::<K, F, E>(rt, archive, listener, left, moments, service, notes)
 }
 
 /// A log on an output that is standard error.
@@ -212,9 +304,22 @@ fn tree_of<'t>(db: &'t str, serving: &Serving<'t>) -> Option<Tree<'t>> {
             is_signed: serving.signed,
             is_unsigned: serving.unsigned,
             is_by_hash: serving.by_hash,
+            key: key_name(serving.key),
             database: db,
         }),
         None => None,
+    }
+}
+
+/// How a serving serves the archive of this database file.
+fn service_of<'t>(db: &'t str, serving: &Serving<'t>) -> Service<'t>
+    ensures refuses { result.refuses_origin ≡ serving.now.refuse_origin }
+    ensures key { option_map (λ name. name.now) result.key ≡ signing_key serving.now.signed serving.now.key }
+{
+    Service {
+        refuses_origin: serving.refuse_origin,
+        key: signing_key(serving.signed, serving.key),
+        tree: tree_of(db, serving),
     }
 }
 
@@ -226,15 +331,15 @@ fn serve_all<'a, K: Keeper + Drop, F: InFile<K>, E: Write>(
     listener: &io::Result<TcpListener>,
     count: u64,
     moments: &mut Moments<'_>,
-    tree: Option<Tree<'_>>,
+    service: Service<'_>,
     notes: &mut Notes<'_, E>,
 ) -> Result<(), Stop<'a>> {
-    let mut left = serve_some::<K, F, E>(rt, archive, listener, count, moments, tree, notes)?;
+    let mut left = serve_some::<K, F, E>(rt, archive, listener, count, moments, service, notes)?;
     for _ in 1..count {
         if left == 0 {
             break;
         }
-        left = match serve_again::<K, F, E>(rt, db, listener, left, moments, tree, notes) {
+        left = match serve_again::<K, F, E>(rt, db, listener, left, moments, service, notes) {
             Ok(left) => left,
             Err(stop) => return Err(again(stop)),
         };
@@ -255,7 +360,7 @@ pub fn serve_file<'a, K: Keeper + Drop, F: InFile<K>, E: Write>(
     let listener = TcpListener::bind(rt, serving.address);
     let mut moments = Moments::new(serving.at, serving.moments);
     let mut first = moments;
-    let tree = tree_of(db, &serving);
+    let service = service_of(db, &serving);
     let mut log = log_on(rt, err);
     let archive = open_archive::<K, F>(rt, db)?;
     log_early(rt.alloc(), &archive, first.next(rt), &mut log);
@@ -268,7 +373,7 @@ pub fn serve_file<'a, K: Keeper + Drop, F: InFile<K>, E: Write>(
         &listener,
         count,
         &mut moments,
-        tree,
+        service,
         &mut notes,
     )
 }

@@ -109,7 +109,7 @@ abbrev pub show_app : App
 show_app = with_rule (db_app (codes "show")) (word_rule (codes "PATH"))
 
 abbrev pub list_app : App
-list_app = with_rule (with_rule (db_app (codes "list")) (flag_rule (codes "json"))) (word_rule (codes "SUITE"))
+list_app = with_rule (with_rule (db_app (codes "list")) (flag_rule (codes "json"))) (optional_word_rule (codes "SUITE"))
 
 abbrev pub waiting_app : App
 waiting_app = with_rule (timed_app (codes "waiting")) (flag_rule (codes "json"))
@@ -122,14 +122,18 @@ why_app =
     with_rule (with_rule (with_rule (db_app (codes "why")) optional_at_rule) (flag_rule (codes "json")))
     (optional_word_rule (codes "NAME"))
 
--- the options of `export` alone
+-- the options of `export` up to `--by-hash`
 abbrev pub export_options : App
 export_options =
     with_rule (with_rule (with_rule (with_rule (db_app (codes "export")) optional_at_rule) (flag_rule (codes "signed"))) (flag_rule (codes "unsigned")))
     (flag_rule (codes "by-hash"))
 
+-- the options of `export` alone
+abbrev pub export_keyed : App
+export_keyed = with_rule export_options (option_rule (codes "key"))
+
 abbrev pub export_app : App
-export_app = with_rule export_options (word_rule (codes "DIR"))
+export_app = with_rule export_keyed (word_rule (codes "DIR"))
 
 -- the options of `serve` up to `--signed`
 abbrev pub serve_options : App
@@ -145,8 +149,16 @@ serve_unsigned = with_rule serve_options (flag_rule (codes "unsigned"))
 abbrev pub serve_by_hash : App
 serve_by_hash = with_rule serve_unsigned (flag_rule (codes "by-hash"))
 
+-- the options of `serve` up to `--key`
+abbrev pub serve_keyed : App
+serve_keyed = with_rule serve_by_hash (option_rule (codes "key"))
+
+-- the options of `serve` up to `--refuse-origin`
+abbrev pub serve_refusing : App
+serve_refusing = with_rule serve_keyed (flag_rule (codes "refuse-origin"))
+
 abbrev pub serve_app : App
-serve_app = with_rule (with_rule serve_by_hash (word_rule (codes "ADDRESS"))) count_rule
+serve_app = with_rule (with_rule serve_refusing (word_rule (codes "ADDRESS"))) count_rule
 
 -- `archive` with its version. Its own name is not among the words that it reads. One command is required; without any word, help is printed.
 abbrev pub new_archive : App
@@ -176,11 +188,12 @@ with_changes app =
 -- with the commands that ask an archive, and the one that serves it
 abbrev pub with_questions : App → App
 with_questions app =
-    with_subcommand (with_subcommand (with_subcommand (with_subcommand (with_subcommand (with_subcommand (with_subcommand (with_subcommand app show_app.top) list_app.top)
+    with_subcommand (with_subcommand (with_subcommand (with_subcommand (with_subcommand (with_subcommand (with_subcommand (with_subcommand (with_subcommand app show_app.top) list_app.top)
     waiting_app.top)
     verdicts_app.top)
     why_app.top)
     (db_app (codes "configuration")).top)
+    (timed_app (codes "status")).top)
     export_app.top)
     serve_app.top
 

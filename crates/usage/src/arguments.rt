@@ -221,6 +221,31 @@ pub fn by_hash<'a>(alloc: Global) -> Arg<'a>
     )
 }
 
+/// `--key NAME`, the file of the key that the pages name.
+pub fn key<'a>(alloc: Global) -> Arg<'a>
+    ensures rule { rule_of result ≡ option_rule (codes "key") }
+    ensures local { result.global ≡ false }
+{
+    option(
+        alloc,
+        "key",
+        "NAME",
+        "The file of the key that the pages name, in place of box.gpg",
+    )
+}
+
+/// `--refuse-origin`.
+pub fn refuse_origin<'a>(alloc: Global) -> Arg<'a>
+    ensures rule { rule_of result ≡ flag_rule (codes "refuse-origin") }
+    ensures local { result.global ≡ false }
+{
+    flag(
+        alloc,
+        "refuse-origin",
+        "A PUT or POST that a page in a browser sends is refused with 403",
+    )
+}
+
 /// How many connections to serve.
 pub fn count<'a>(alloc: Global) -> Arg<'a>
     ensures rule { rule_of result ≡ count_rule }

@@ -2,11 +2,11 @@
 
 ghost use Rattle.std.specs.Prelude.{◌≡◌, IfOk, codes, false};
 ghost use Rattle.clap.specs.Words.{App, Rule, new_app, rule_of, with_rule, with_subcommand};
-ghost use Rattle.usage.specs.Shape.{archive_app, new_archive, IsCommand, try_app, compare_app, check_app, init_app, put_app, run_app, db_app, timed_app, copy_app, promote_app, remove_app, batch_app, configure_app, migrate_app, show_app, list_app, waiting_app, verdicts_app, why_app, export_app, export_options, serve_app, serve_by_hash, serve_options, serve_unsigned, word_rule, with_changes, with_others, with_questions};
+ghost use Rattle.usage.specs.Shape.{archive_app, new_archive, IsCommand, try_app, compare_app, check_app, init_app, put_app, run_app, db_app, timed_app, copy_app, promote_app, remove_app, batch_app, configure_app, migrate_app, show_app, list_app, waiting_app, verdicts_app, why_app, export_app, export_keyed, export_options, serve_app, serve_by_hash, serve_keyed, serve_options, serve_refusing, serve_unsigned, word_rule, with_changes, with_others, with_questions};
 
 use crate::arguments::{
-    at, by_hash, count, db, export, from, json, log, many, moments, optional_at, optional_word,
-    paths, signed, strict, unsigned, word,
+    at, by_hash, count, db, export, from, json, key, log, many, moments, optional_at,
+    optional_word, paths, refuse_origin, signed, strict, unsigned, word,
 };
 use crate::version::VERSION;
 use clap::{Arg, Command};
@@ -269,9 +269,16 @@ fn show_command<'a>(alloc: Global) -> Result<Command<'a>, AllocError>
 fn list_command<'a>(alloc: Global) -> Result<Command<'a>, AllocError>
     ensures { IfOk result (IsCommand list_app) }
 {
-    let command = db_command(alloc, "list", "Lists what a suite shows, an item a line");
+    let command = db_command(alloc, "list", "Lists what suites show, an item a line");
     let command = with_arg(command, json(alloc));
-    with_arg(command, word(alloc, "SUITE", "The suite that shows it"))
+    with_arg(
+        command,
+        optional_word(
+            alloc,
+            "SUITE",
+            "The suite that shows it; without it all suites, with the codename in front",
+        ),
+    )
 }
 
 fn waiting_command<'a>(alloc: Global) -> Result<Command<'a>, AllocError>
@@ -328,7 +335,17 @@ fn configuration_command<'a>(alloc: Global) -> Result<Command<'a>, AllocError>
     )
 }
 
-/// The command that exports, with its options alone.
+fn status_command<'a>(alloc: Global) -> Result<Command<'a>, AllocError>
+    ensures { IfOk result (IsCommand (timed_app (codes "status"))) }
+{
+    timed_command(
+        alloc,
+        "status",
+        "Prints figures of an archive: what waits, verdicts, what suites show, contents",
+    )
+}
+
+/// The command that exports, with its options up to `--by-hash`.
 fn export_with_options<'a>(alloc: Global) -> Result<Command<'a>, AllocError>
     ensures { IfOk result (IsCommand export_options) }
 {
@@ -349,11 +366,19 @@ fn export_with_options<'a>(alloc: Global) -> Result<Command<'a>, AllocError>
     with_arg(command, by_hash(alloc))
 }
 
+/// The command that exports, with its options alone.
+fn export_with_key<'a>(alloc: Global) -> Result<Command<'a>, AllocError>
+    ensures { IfOk result (IsCommand export_keyed) }
+{
+    let command = export_with_options(alloc);
+    with_arg(command, key(alloc))
+}
+
 /// The command that exports.
 pub fn export_command<'a>(alloc: Global) -> Result<Command<'a>, AllocError>
     ensures { IfOk result (IsCommand export_app) }
 {
-    let command = export_with_options(alloc);
+    let command = export_with_key(alloc);
     with_arg(
         command,
         word(
@@ -395,11 +420,27 @@ fn serve_with_by_hash<'a>(alloc: Global) -> Result<Command<'a>, AllocError>
     with_arg(command, by_hash(alloc))
 }
 
+/// The command that serves, with its options up to `--key`.
+fn serve_with_key<'a>(alloc: Global) -> Result<Command<'a>, AllocError>
+    ensures { IfOk result (IsCommand serve_keyed) }
+{
+    let command = serve_with_by_hash(alloc);
+    with_arg(command, key(alloc))
+}
+
+/// The command that serves, with its options up to `--refuse-origin`.
+fn serve_with_refuse_origin<'a>(alloc: Global) -> Result<Command<'a>, AllocError>
+    ensures { IfOk result (IsCommand serve_refusing) }
+{
+    let command = serve_with_key(alloc);
+    with_arg(command, refuse_origin(alloc))
+}
+
 /// The command that serves.
 pub fn serve_command<'a>(alloc: Global) -> Result<Command<'a>, AllocError>
     ensures { IfOk result (IsCommand serve_app) }
 {
-    let command = serve_with_by_hash(alloc);
+    let command = serve_with_refuse_origin(alloc);
     let command = with_arg(
         command,
         word(alloc, "ADDRESS", "Where to listen, such as 127.0.0.1:8080"),
@@ -461,6 +502,7 @@ fn with_asking<'a>(
     let command = with(command, verdicts_command(alloc));
     let command = with(command, why_command(alloc));
     let command = with(command, configuration_command(alloc));
+    let command = with(command, status_command(alloc));
     let command = with(command, export_command(alloc));
     with(command, serve_command(alloc))
 }

@@ -5,7 +5,7 @@ use Rattle.program.proofs.serving.serve_at.Given as goal
 
 abbrev pub invariant-loop-served : goal.invariant-loop-served
 invariant-loop-served g l = record {
-  turns : HasServed g.K.Keeper l.served (IsClientsWithin l.initial.moments.greatest l.moments.greatest) l.initial.archive.keeper l.archive.keeper;
+  turns : HasServed g.K.Keeper l.served (IsClientsWithin l.desk.rules l.initial.moments.greatest l.moments.greatest) l.initial.archive.keeper l.archive.keeper;
   rises : l.initial.moments.greatest ≤ l.moments.greatest;
   still : l.initial.moments.file ≡ None → l.moments.greatest ≡ l.initial.moments.greatest;
   file : l.moments.file ≡ l.initial.moments.file;

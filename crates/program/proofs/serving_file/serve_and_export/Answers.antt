@@ -6,7 +6,7 @@ use Rattle.program.proofs.serving_file.serve_and_export.Goals as goal
 
 pub loop-served-init : goal.loop-served-init
 loop-served-init g c = record {
-  turns = no_turn g.K.Keeper 0 (IsClientsWithin c.args.moments.now.greatest c.args.moments.now.greatest) c.args.archive.now.keeper;
+  turns = no_turn g.K.Keeper 0 (IsClientsWithin c.args.desk.now.rules c.args.moments.now.greatest c.args.moments.now.greatest) c.args.archive.now.keeper;
   rises = omega arith;
   still = λ none. refl;
   file = refl;
@@ -15,7 +15,7 @@ loop-served-init g c = record {
 pub returns-in-Err-Shut-clause-served : goal.returns-in-Err-Shut-clause-served
 returns-in-Err-Shut-clause-served g c =
     let sofar = c.loop-served.invariant in
-    one_more g.K.Keeper c.loop-served.served c.args.left c.args.moments.now.greatest c.loop-served.moments.greatest c.loop-served.moments.greatest c.serve_one.new.moments.greatest
+    one_more g.K.Keeper c.args.desk.now.rules c.loop-served.served c.args.left c.args.moments.now.greatest c.loop-served.moments.greatest c.loop-served.moments.greatest c.serve_one.new.moments.greatest
     c.args.archive.now.keeper c.loop-served.archive.keeper c.serve_one.new.archive.keeper (omega (arith, c.loop-served-test.true)) sofar.rises (omega arith) c.serve_one.ensures.rises sofar.turns
     c.serve_one.ensures.served
 
@@ -23,7 +23,7 @@ pub returns-in-Err : goal.returns-in-Err
 returns-in-Err g c =
     let sofar = c.loop-served.invariant in
     record {
-      served = one_more g.K.Keeper c.loop-served.served c.args.left c.args.moments.now.greatest c.loop-served.moments.greatest c.loop-served.moments.greatest c.serve_one.new.moments.greatest
+      served = one_more g.K.Keeper c.args.desk.now.rules c.loop-served.served c.args.left c.args.moments.now.greatest c.loop-served.moments.greatest c.loop-served.moments.greatest c.serve_one.new.moments.greatest
           c.args.archive.now.keeper c.loop-served.archive.keeper c.serve_one.new.archive.keeper (omega (arith, c.loop-served-test.true)) sofar.rises (omega arith) c.serve_one.ensures.rises sofar.turns
           c.serve_one.ensures.served;
       rises = omega (arith, sofar.rises, c.serve_one.ensures.rises);
@@ -35,7 +35,7 @@ pub loop-served-preserved : goal.loop-served-preserved
 loop-served-preserved g c =
     let sofar = c.loop-served.invariant in
     record {
-      turns = one_more g.K.Keeper c.loop-served.served (c.loop-served.served + 1) c.args.moments.now.greatest c.loop-served.moments.greatest c.loop-served.moments.greatest
+      turns = one_more g.K.Keeper c.args.desk.now.rules c.loop-served.served (c.loop-served.served + 1) c.args.moments.now.greatest c.loop-served.moments.greatest c.loop-served.moments.greatest
           c.serve_one.new.moments.greatest c.args.archive.now.keeper c.loop-served.archive.keeper c.serve_one.new.archive.keeper (omega arith) sofar.rises (omega arith) c.serve_one.ensures.rises
           sofar.turns c.serve_one.ensures.served;
       rises = omega (arith, sofar.rises, c.serve_one.ensures.rises);

@@ -8,5 +8,6 @@ returns c app whole =
     let four = c.with-command-4.ensures _ _ three c.verdicts_command.ensures in
     let five = c.with-command-5.ensures _ _ four c.why_command.ensures in
     let six = c.with-command-6.ensures _ _ five c.configuration_command.ensures in
-    let seven = c.with-command-7.ensures _ _ six c.export_command.ensures in
-    c.with.ensures _ _ seven c.serve_command.ensures
+    let seven = c.with-command-7.ensures _ _ six c.status_command.ensures in
+    let eight = c.with-command-8.ensures _ _ seven c.export_command.ensures in
+    c.with.ensures _ _ eight c.serve_command.ensures

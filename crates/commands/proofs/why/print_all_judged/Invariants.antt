@@ -1,8 +1,0 @@
--- So far the archive was only read.
-use Rattle.keep.specs.Keeping.{Reads}
-use Rattle.commands.proofs.why.print_all_judged.Given as goal
-
-abbrev pub invariant-loop-judgement : goal.invariant-loop-judgement
-invariant-loop-judgement g l =
-    let k = g.K.Keeper in
-    record { reads : Reads k.is_clean k.is_open k.faults k.book k.may_leave l.fn.archive.keeper l.archive.keeper }
