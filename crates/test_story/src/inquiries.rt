@@ -2,13 +2,14 @@
 
 use crate::outcomes::report_text;
 use crate::steps::{moment_of, path_of};
-use inquiry::{came_instead, read_upload};
-use keep::{ArrivedFile, Counting, Judgement, Keeper, LATEST, Lack, Waiting};
+use inquiry::{Delivered, by_name, came_instead, read_upload};
+use keep::{Counting, Judgement, Keeper, LATEST, Lack, Waiting};
 use output::listing::shown_lines;
 use queue::{Archive, Fault, Report};
 use reasons::{Named, Reason, reason_of};
 use rules::Config;
 use std::alloc::{AllocError, Global};
+use std::collections::BTreeMap;
 use suites::{Shelves, Upload};
 use sums::Print;
 use test_rows::{Unread, text_of};
@@ -58,12 +59,12 @@ fn push_lack(
 fn push_lacks(
     alloc: Global,
     lines: &mut Vec<String>,
-    arrived: &[ArrivedFile],
+    named: &BTreeMap<String, Vec<Delivered>>,
     counting: Counting,
     upload: &Waiting,
 ) -> Result<(), AllocError> {
     let lacks = upload.lacks.as_slice();
-    let came = came_instead(alloc, arrived, counting, lacks)?;
+    let came = came_instead(alloc, named, counting, lacks)?;
     for (lack, prints) in lacks.iter().zip(&came) {
         push_lack(alloc, lines, lack, prints.as_slice())?;
     }
@@ -84,12 +85,12 @@ fn lacking<K: Keeper>(
         return Err(Fault::Moment);
     }
     let counting = Counting::new(archive.keeper.config(), moment);
-    let arrived = archive.keeper.arrivals(alloc)?;
+    let named = by_name(alloc, &archive.keeper.arrivals(alloc)?)?;
     let waiting = archive.keeper.waiting(alloc, moment)?;
     let mut lines = Vec::new(alloc);
     for upload in &waiting {
         if upload.name.as_str() == name {
-            push_lacks(alloc, &mut lines, &arrived, counting, upload)?;
+            push_lacks(alloc, &mut lines, &named, counting, upload)?;
         }
     }
     Ok(Report { lines })

@@ -7,6 +7,7 @@ use desk::request::{Request, read_request};
 use queue::ReaderFailed;
 use std::alloc::{AllocError, Global};
 use std::fmt::Write;
+use telling::{Page, Question};
 use test_rows::Unread;
 
 /// The numbers of bytes that come in one read.
@@ -78,6 +79,59 @@ pub fn status(alloc: Global, words: &[Vec<u8>]) -> Result<Vec<u8>, Unread> {
     Ok(first.into_bytes())
 }
 
+/// How a question is answered: by lines, or by objects of JSON.
+fn kind_of(is_json: bool) -> &'static str {
+    if is_json { "objects" } else { "lines" }
+}
+
+/// Adds the key of a page, if it has one.
+fn add_key(text: &mut String, key: &Option<String>) -> Result<(), AllocError> {
+    match key {
+        Some(name) => write!(text, " {name:?}"),
+        None => Ok(()),
+    }
+}
+
+/// Adds a page.
+fn add_page(text: &mut String, page: &Page) -> Result<(), AllocError> {
+    match page {
+        Page::Suites => text.push_str("page suites"),
+        Page::Uploads => text.push_str("page uploads"),
+        Page::Suite { codename } => write!(text, "page suite {codename:?}"),
+    }
+}
+
+/// Adds a question about what has a name, or about all.
+fn add_named(
+    text: &mut String,
+    word: &str,
+    name: &Option<String>,
+    is_json: bool,
+) -> Result<(), AllocError> {
+    let kind = kind_of(is_json);
+    match name {
+        Some(name) => write!(text, "{word} {name:?} {kind}"),
+        None => write!(text, "{word} {kind}"),
+    }
+}
+
+/// Adds a question.
+fn add_question(text: &mut String, question: &Question) -> Result<(), AllocError> {
+    match question {
+        Question::Why { name, is_json } => add_named(text, "why", name, *is_json),
+        Question::Shown { suite, is_json } => add_named(text, "list", suite, *is_json),
+        Question::Configuration => text.push_str("configuration"),
+        Question::Waiting => text.push_str("waiting objects"),
+        Question::Verdicts => text.push_str("verdicts objects"),
+        Question::Figures => text.push_str("figures"),
+        Question::Status => text.push_str("status"),
+        Question::Page { page, key } => {
+            add_page(text, page)?;
+            add_key(text, key)
+        }
+    }
+}
+
 /// Adds a command and its arguments.
 fn add_wanted(text: &mut String, wanted: &Ask) -> Result<(), AllocError> {
     match wanted {
@@ -93,6 +147,7 @@ fn add_wanted(text: &mut String, wanted: &Ask) -> Result<(), AllocError> {
         Ask::Verdicts => text.push_str("verdicts"),
         Ask::Remove { suite, name } => write!(text, "remove {suite:?} {name:?}"),
         Ask::Promote { from, to } => write!(text, "promote {from:?} {to:?}"),
+        Ask::Question(question) => add_question(text, question),
     }
 }
 

@@ -2,7 +2,7 @@
 
 use crate::named::paths_in;
 use crate::refusals::is_refusal;
-use crate::telling::asked;
+use crate::stories::asked;
 use keep::Keeper;
 use queue::Archive;
 use rules::Config;

@@ -7,6 +7,7 @@ use crate::inquiries::{lacks, list, reason};
 use crate::keepers::Makes;
 use crate::numbers::numbers;
 use crate::outcomes::printed;
+use crate::questions;
 use crate::reading::{status, wanted};
 use crate::receptions::{receive, receive_fails, receive_fails_each};
 use crate::requests::{left, request};
@@ -58,12 +59,13 @@ fn asked_of_uploads<K: Keeper>(
         "piece" => piece(alloc, archive, words),
         "lacks" => lacks(alloc, archive, words),
         "reason" => reason(alloc, archive, words),
+        "ask" => questions::ask(alloc, archive, words),
         _ => asked_by_reader(alloc, archive, verb, words),
     }
 }
 
 /// What an archive answers to a question: `deliver`, `run`, `waiting`, `verdicts`, `show`, `has`, `copy`, `promote`, `remove`,
-/// `clean`, `configure`, `configuration`, `drive`, `list`, `piece`, `lacks`, `reason` and those on requests and readers.
+/// `clean`, `configure`, `configuration`, `drive`, `list`, `piece`, `lacks`, `reason`, `ask` and those on requests and readers.
 pub fn asked<K: Keeper>(
     alloc: Global,
     archive: &mut Archive<K>,
