@@ -21,9 +21,10 @@ import threading
 import time
 import unittest
 import unittest.mock
+import urllib.parse
 
 from tests.ports import free_port
-from tests.snippets import built
+from tests.snippets import built, snippet
 from tests.tools import ROOT, tool
 from tests.wants import main, needs
 from uploads import uploads
@@ -45,6 +46,10 @@ AGAIN = NEW.replace("new ", "again ")
 LONG = 120
 
 
+def sha256(body):
+    return hashlib.sha256(body).hexdigest()
+
+
 class Archive:
     """What stands in for the archive. Of each file it keeps each body that came under its name, and of each .changes that is whole the verdict
     that is wanted, once a run was asked for."""
@@ -56,6 +61,11 @@ class Archive:
         self.verdicts = []
         self.requests = []
         self.verdict = "accepted"
+        # Whether it can be asked why, as an older program and some proxies can't; what it then says of a verdict, and of what waits: each line with
+        # the space in front.
+        self.tells = False
+        self.reasons = {"accepted": " shown box hello 1.0-1 amd64\n"}
+        self.since = " since Sat, 02 Jul 2016 05:20:50 UTC\n"
         # What is answered in place of the rest, by method and path: a list of statuses and texts, of which the last one stays if it says so.
         self.faults = collections.defaultdict(list)
         self.login = None
@@ -72,9 +82,25 @@ class Archive:
             self.bodies[name].append(body)
         return (201, "new\n") if is_new else (200, "again\n")
 
+    def lacks(self, text):
+        """What is said of each file that an upload lacks, by their names."""
+        entries = sorted(re.findall(r"^ ([0-9a-f]{64}) (\d+) (\S+)$", text, re.M), key=lambda it: it[2])
+        return [f"lacks {name} {size} {digest}" for digest, size, name in entries if digest not in map(sha256, self.bodies[name])]
+
     def is_whole(self, text):
-        entries = re.findall(r"^ ([0-9a-f]{64}) \d+ (\S+)$", text, re.M)
-        return all(digest in {hashlib.sha256(it).hexdigest() for it in self.bodies[name]} for digest, name in entries)
+        return not self.lacks(text)
+
+    def why(self, name):
+        """What is said of each upload of a name, as `archive why` prints it: first of those that wait."""
+        text = ""
+        waits = [body for it, body, _ in self.waiting() if it == name]
+        for body in waits:
+            lines = "".join(f" {line}\n" for line in self.lacks(body.decode()) or ["whole"])
+            text += f"waits {name} {sha256(body)}\n{self.since}{lines}"
+        for (it, body), verdict in self.judged.items():
+            if it == name:
+                text += f"{verdict} {name} {sha256(body)}\n{self.reasons[verdict]}"
+        return (200, text) if text else (404, "404 Not Found\n")
 
     def waiting(self):
         for name in [it for it in self.bodies if it.endswith(".changes")]:
@@ -99,9 +125,11 @@ class Archive:
             if fault := self.fault(method, path):
                 return fault[:2]
             if method == "PUT":
-                return self.deliver(path.removeprefix("/incoming/"), body)
+                return self.deliver(urllib.parse.unquote(path.removeprefix("/incoming/")), body)
             if (method, path) == ("POST", "/queue/run"):
                 return self.run()
+            if self.tells and path.startswith("/why/"):
+                return self.why(urllib.parse.unquote(path.removeprefix("/why/")))
             if path == "/queue":
                 return 200, "".join(f"{0 if is_whole else 1} {name}\n" for name, _, is_whole in self.waiting())
             return (200, "".join(self.verdicts)) if path == "/verdicts" else (404, "404 Not Found\n")
@@ -577,7 +605,146 @@ class Uploads(unittest.TestCase):
         self.archive.is_whole = lambda _: False
         status, printed, told = self.upload("--run", "--within", "3")
         self.assertEqual((status, printed), (3, NEW))
-        self.assertIn(f"upload: not done within 3 seconds: {CHANGES} has no verdict yet, and lacks 1 files\n", told)
+        self.assertIn(f"upload: not done within 3 seconds: {CHANGES} has no verdict yet, and lacks 1 file\n", told)
+
+    def ready(self):
+        """The .changes of an upload that is made ready, so that its bytes are known here."""
+        ready = self.room / "ready"
+        subprocess.run([sys.executable, f"{ROOT}/bin/with_sidecars", self.changes, ready], check=True, capture_output=True, timeout=LONG)
+        return ready / CHANGES
+
+    def test_the_archive_says_why(self):
+        """Below the verdict is what it says, as it says it, without the space in front."""
+        self.archive.tells, self.archive.verdict = True, "refused 1"
+        means, todo = "No suite takes the distribution.", "Build for one that a suite takes."
+        self.archive.reasons["refused 1"] = f" {means}\n distribution UNRELEASED\n taken box box\n {todo}\n"
+        lines = f"refused 1 {CHANGES}\n{means}\ndistribution UNRELEASED\ntaken box box\n{todo}\n{tool('bin/upload').FINAL}\n"
+        self.check((1, NEW + lines), "--run")
+        self.check((1, AGAIN + lines), "--run")
+        self.archive.requests.clear()
+        self.check((1, AGAIN + lines), "--run")
+        self.assertEqual(self.archive.requests[-2:], [("POST", "/queue/run"), ("GET", f"/why/{CHANGES}")])
+        self.check((0, AGAIN))
+
+    def test_what_the_archive_says_of_an_acceptance_is_not_printed(self):
+        self.archive.tells = True
+        self.check((0, f"{NEW}accepted {CHANGES}\n"), "--run")
+
+    def test_a_line_of_the_archive_is_one_line(self):
+        """Whatever characters a person has, and however long it is. Two long names and a digest are whole."""
+        self.archive.tells, self.archive.verdict = True, "refused 3"
+        long, names = "x" * 5000, f"file {'a' * 200} component {'b' * 60}, not {'c' * 200}"
+        said = [f"person E\x1b[2J\x9bve\x85accepted {CHANGES}", "person \u2028accepted \u00e9", names, long]
+        self.archive.reasons["refused 3"] = "".join(f" {line}\n" for line in said)
+        wanted = [f"person E?[2J?ve?accepted {CHANGES}", "person \u2028accepted \u00e9", names, f"{long[:4096]}.."]
+        status, printed, told = self.upload("--run")
+        self.assertEqual((status, told), (1, ""))
+        self.assertEqual(printed.split("\n")[len(FILES):], [f"refused 3 {CHANGES}", *wanted, tool("bin/upload").FINAL, ""])
+
+    def test_uploads_of_one_name_are_told_apart_by_the_digest(self):
+        """Before and after it others of the name wait, and were judged otherwise."""
+        self.archive.tells, changes = True, self.ready()
+        self.archive.reasons |= {"refused 5": " file five\n", "refused 7": " file seven\n"}
+        others = {b"one": "refused 5", b"two": "accepted"}
+        self.archive.bodies[CHANGES] += [*others, b" 0" + b"0" * 62 + b" 3 none\n" + b" " + b"0" * 64 + b" 3 none\n"]
+        self.archive.judged = {(CHANGES, body): verdict for body, verdict in others.items()}
+        self.archive.verdicts = [f"{verdict} {CHANGES}\n" for verdict in others.values()]
+        for verdict, wanted in (("accepted", (0, f"{NEW}accepted {CHANGES}\n")), ("refused 7", None)):
+            self.archive.verdict = verdict
+            wanted = wanted or (1, f"{AGAIN}refused 7 {CHANGES}\nfile seven\n{tool('bin/upload').FINAL}\n")
+            self.check(wanted, "--run", changes=str(changes))
+            self.archive.judged.pop((CHANGES, changes.read_bytes()))
+            self.archive.judged[CHANGES, b"three"] = "refused 5"
+            self.archive.verdicts.append(f"refused 5 {CHANGES}\n")
+
+    def test_what_it_lacks_is_said_again_only_if_it_changes(self):
+        self.archive.tells, changes = True, self.ready()
+        lacks, ended, came = f"lacks x.deb 3 {'0' * 64}", f"ended x.deb 3 {'0' * 64}", f"came x.deb 2 {'f' * 64}"
+        stages = [[lacks], [lacks], [lacks, came], [lacks, came], [ended, lacks], [ended], []]
+        self.archive.is_whole = lambda _: not stages[0]
+        self.archive.lacks = lambda _: stages.pop(0) if len(stages) > 1 else stages[0]
+        one, two = (f"has no verdict yet, and lacks {files}; trying again" for files in ("1 file", "2 files"))
+        lines = [lacks, one, lacks, came, ended, lacks, two, ended, one]
+        told = "".join(f"upload: {CHANGES} {line}\n" for line in lines)
+        self.check((0, f"{NEW}accepted {CHANGES}\n"), "--run", changes=str(changes), told=told)
+
+    def test_what_the_page_shows_of_an_upload_that_waits(self):
+        self.archive.tells, told = True, snippet("what lacks")
+        lines = [line.removeprefix(f"upload: {CHANGES} ") for line in told.splitlines()]
+        stages = [lines[:1], lines[:1], []]
+        self.archive.is_whole = lambda _: not stages[0]
+        self.archive.lacks = lambda _: stages.pop(0) if len(stages) > 1 else stages[0]
+        self.check((0, f"{NEW}accepted {CHANGES}\n"), "--run", told=told)
+
+    def test_what_is_whole_waits_for_a_run_of_the_timer(self):
+        """A line that says since when it waits, or that it is whole, is none on what it lacks."""
+        self.archive.tells = True
+        self.archive.faults["POST", "/queue/run"] = [(403, "", "always")]
+        timer = threading.Timer(3, self.archive.run)
+        timer.start()
+        self.addCleanup(timer.cancel)
+        self.check((0, f"{NEW}accepted {CHANGES}\n"), "--run", told=f"upload: {CHANGES} has no verdict yet; trying again\n")
+
+    def test_whoever_may_not_ask_why_goes_by_the_lists(self):
+        upload = tool("bin/upload")
+        self.archive.tells = True
+        for number, status in (("1", 403), ("9", 404), ("3", 405)):
+            with self.subTest(status):
+                self.archive.verdict = f"refused {number}"
+                self.archive.reasons[self.archive.verdict] = " never seen\n"
+                self.archive.judged.clear()
+                self.archive.verdicts.clear()
+                self.archive.faults["GET", f"/why/{CHANGES}"] = [(status, "<html>", "always")]
+                ran, printed, told = self.upload("--run")
+                self.assertEqual((ran, told), (1, ""))
+                wanted = [f"refused {number} {CHANGES}", *upload.REASONS[number], upload.FINAL]
+                self.assertEqual(printed.splitlines()[len(FILES):], wanted)
+
+    def test_an_answer_that_has_nothing_of_it_is_as_none(self):
+        """The lists say what became of it then: another digest, another name, a verdict that is none, a line that goes on, a page of HTML."""
+        self.archive.tells, changes = True, self.ready()
+        ours = sha256(changes.read_bytes())
+        for text in (
+            "",
+            "<html>\n <p>refused 3\n",
+            f"refused 3 {CHANGES} {'0' * 64}\n a\n",
+            f"refused 3 other-{CHANGES} {ours}\n a\n",
+            f"refused 3 {CHANGES} {ours} \n a\n",
+            f"refused 3 {CHANGES} {ours.upper()}\n a\n",
+            f" refused 3 {CHANGES} {ours}\n a\n",
+            f"refused {CHANGES} {ours}\n a\n",
+            f"judged {CHANGES} {ours}\n a\n",
+            f"waits refused 3 {CHANGES} {ours}\n a\n",
+            f"waits other.changes {'0' * 64}\n refused 3 {CHANGES} {ours}\n",
+        ):
+            with self.subTest(text):
+                self.archive.faults["GET", f"/why/{CHANGES}"] = [(200, text, "always")]
+                self.archive.bodies.clear()
+                self.archive.judged.clear()
+                self.archive.verdicts.clear()
+                self.check((0, f"{NEW}accepted {CHANGES}\n"), "--run", changes=str(changes))
+
+    def test_an_answer_to_why_that_is_no_answer(self):
+        self.archive.tells = True
+        path = "GET", f"/why/{CHANGES}"
+        self.archive.faults[path] = [(507, "507 Insufficient Storage\n"), (502, "<html>")]
+        status, printed, told = self.upload("--run")
+        self.assertEqual((status, printed), (0, f"{NEW}accepted {CHANGES}\n"))
+        self.assertEqual(told.count("trying again"), 2)
+        for status, text, line in ((401, "", f"refused 401 Unauthorized {CHANGES}"), (422, "Q5\n", f"refused Q5 {CHANGES}")):
+            self.archive.faults[path] = [(status, text)]
+            ran, printed, told = self.upload("--run")
+            self.assertEqual((ran, printed.splitlines()[len(FILES)], told), (1, line, ""))
+
+    def test_a_name_with_a_plus(self):
+        """It goes escaped into the address."""
+        self.archive.tells, self.archive.verdict = True, "refused 9"
+        self.archive.reasons["refused 9"] = " place\n"
+        changes = self.ready().rename(self.room / "ready" / "a+b~1.changes")
+        ran, printed, told = self.upload("--run", changes=str(changes))
+        wanted = ["refused 9 a+b~1.changes", "place", tool("bin/upload").FINAL]
+        self.assertEqual((ran, printed.splitlines()[-3:], told), (1, wanted, ""))
+        self.assertEqual(self.archive.requests[-1], ("GET", "/why/a%2Bb~1.changes"))
 
     def answered(self, pieces, *words):
         """What the command ends with if the server sends these pieces to each request, and how many requests there were. It has 512 MiB."""
@@ -671,7 +838,7 @@ class Uploads(unittest.TestCase):
 
     def test_one_connection_in_three_is_cut(self):
         proxy = self.cut()
-        for _ in range(3):
+        for self.archive.tells in (False, True, True):
             status, printed, told = self.upload("--run", url=self.url_of(proxy.port))
             self.assertEqual((status, printed.splitlines()[-1]), (0, f"accepted {CHANGES}"), told)
             self.assertEqual([line.split()[1] for line in printed.splitlines()[:-1]], FILES)
