@@ -1,12 +1,14 @@
-"""All tests of this repository, one after another, as `make test` and CI run them.
+"""All tests of this repository, as `make test` and CI run them.
 
 First come those that take seconds: whether the pages and the wrong bodies fit the sources, the words of comments, and the tests of the
-tools. Then comes the gate, rt ci, and after it the tests of the program that it built. Each is run, even if one before it failed. At the
-end a line says once more how long the gate took, and lines say once more what failed, so that a log that lost its middle has them. Each test
-that was skipped has a line, below what there is not on this machine, and then comes a line that counts them. The last line is 'N passed,
+tools. Then comes the gate, rt ci, and after it the tests of the program that it built, two at a time if there are four processors. Each is run,
+even if one before it failed. At the end lines say once more how long the gate took, what it took of the processors and at which minute each crate was proved, and what failed,
+so that a log that lost its middle has them. Each test that was skipped has a line, below what there is not on this machine, and then comes a line that counts them. The last line is 'N passed,
 M failed': what the gate counts, and one more for each of the others. The status is 0 if none failed."""
+import concurrent.futures
 import os
 import re
+import resource
 import shutil
 import subprocess
 import sys
@@ -51,6 +53,7 @@ BEHIND = [
     "tests.test_archives",
     "tests.test_others",
     "tests.test_served",
+    "tests.test_questions",
     "tests.test_pieces",
     "tests.test_large",
     "tests.test_command_lines",
@@ -82,22 +85,42 @@ BEHIND = [
     "tests.test_export_planted",
     "tests.test_export_apt",
     "tests.test_web_pages",
+    "tests.test_served_pages",
+    "tests.test_figures",
     "tests.test_packaging",
     "tests.refuse_growths --part",
 ]
 COUNTS = re.compile(r"(\d+) passed, (\d+) failed$")
 # The lines of the gate that say what failed in it: each by itself, and at its end all names.
 OF_FAULTS = re.compile(r"rt: (FAILED: .*|.* NOT PROVED|.*: NOT (REFUSED|TRIED).*|.*: the program (ended|was stopped|had not ended) .*|.*: what the program wrote, .*|.*: its tests FAILED)$")
+# The line of the gate that says that a crate is proved.
+PROVED = re.compile(r"rt: (\w+) proved$")
+# How many additions a machine's speed is measured by.
+ADDITIONS = 5_000_000
 # The first kit that proves crates by name, and keeps that.
 KEEPING_KIT = 13, "f"
 
 
-def is_passed(line):
-    """Runs a tool, which is named by its path or as a module of tests, and answers whether it ended well."""
-    print(f"== {line}", flush=True)
+def ran_with(line, **files):
+    """Runs a tool, which is named by its path or as a module of tests, with these files as its output. Answers how it ended."""
     name, *words = line.split()
     module = ["-m"] if name.startswith("tests.") else []
-    return subprocess.run([sys.executable, *module, name, *words], cwd=ROOT, check=False).returncode == 0
+    return subprocess.run([sys.executable, *module, name, *words], cwd=ROOT, check=False, **files)
+
+
+def is_passed(line):
+    """Runs a tool, whose output is printed while it runs, and answers whether it ended well."""
+    print(f"== {line}", flush=True)
+    return ran_with(line).returncode == 0
+
+
+def are_passed(lines, together):
+    """Runs tools, as many at a time. What each printed stands together, in the order of the lines. Answers of each whether it ended well."""
+    with concurrent.futures.ThreadPoolExecutor(together) as pool:
+        runs = pool.map(lambda line: ran_with(line, stdout=subprocess.PIPE, stderr=subprocess.STDOUT), lines)
+        for line, ran in zip(lines, runs):
+            print(f"== {line}", ran.stdout.decode(errors="replace"), sep="\n", end="", flush=True)
+            yield ran.returncode == 0
 
 
 def free_memory():
@@ -143,25 +166,48 @@ def prove_first():
                 subprocess.run([*GATE, *BESIDE], cwd=ROOT, env={**environment, "RT_JOBS": str(half)}, check=False)
 
 
+def seconds_of_children():
+    """The seconds of processor that the programs took which this one ran and waited for, with those that they ran."""
+    used = resource.getrusage(resource.RUSAGE_CHILDREN)
+    return used.ru_utime + used.ru_stime
+
+
+def seconds_of_additions():
+    """The seconds that a processor of this machine takes for the additions, the least of three rounds: figures of two machines are compared by it."""
+
+    def one_round():
+        began, total = time.process_time(), 0
+        for it in range(ADDITIONS):
+            total += it
+        return time.process_time() - began
+
+    return min(one_round() for _ in range(3))
+
+
 def gate():
-    """Runs the gate, says how long it took, and answers how much of it passed and failed, and what it said."""
+    """Runs the gate, says how long it took, and answers how much of it passed and failed, and lines on it."""
     if not shutil.which(GATE[0]):
         print("There is no rt on the path, so nothing is proved.", flush=True)
         return 0, 1
-    last, faults, began = "", [], time.monotonic()
+    last, faults, ends, began, spent = "", [], [], time.monotonic(), seconds_of_children()
     if can_begin_before():
         prove_first()
     with subprocess.Popen(GATE, cwd=ROOT, env=environment_of_gate(), stdout=subprocess.PIPE, text=True, errors="replace") as run:
         for line in run.stdout:
             print(line, end="", flush=True)
             last = line.strip() or last
+            if found := PROVED.match(line.rstrip()):
+                ends.append(f"{found[1]} {(time.monotonic() - began) / 60:.0f}")
             if OF_FAULTS.match(line.rstrip()):
                 faults.append(f"Of the gate: {line.rstrip()[:600]}")
     took = f"The gate took {(time.monotonic() - began) / 60:.1f} minutes."
-    print(took, flush=True)
+    work = f"It took {seconds_of_children() - spent:,.0f} seconds of processor, on {len(os.sched_getaffinity(0))} processors. "
+    work += f"One adds {ADDITIONS:,} numbers in {seconds_of_additions():.2f} seconds."
+    lines = [took, work, *([f"The minute at which each crate was proved: {', '.join(ends)}."] if ends else [])]
+    print(*lines, sep="\n", flush=True)
     found = COUNTS.match(last)
     passed, failed = (int(it) for it in found.groups()) if found else (0, 1)
-    return passed, failed or int(run.returncode != 0), took, *faults
+    return passed, failed or int(run.returncode != 0), *lines, *faults
 
 
 def told_of_skipped(lines):
@@ -188,18 +234,19 @@ def run_all(*parts):
     return 1 if failed else 0
 
 
-def each_of(lines):
-    """A part that runs each of these tools."""
+def each_of(lines, together=1):
+    """A part that runs each of these tools, as many at a time."""
 
     def run():
-        failed = [it for it in lines if not is_passed(it)]
+        ends = are_passed(lines, together) if together > 1 else map(is_passed, lines)
+        failed = [line for line, is_well in zip(lines, ends) if not is_well]
         return len(lines) - len(failed), len(failed), *(f"Failed: {it}" for it in failed)
 
     return run
 
 
 def main():
-    return run_all(each_of(BEFORE), gate, each_of(BEHIND))
+    return run_all(each_of(BEFORE), gate, each_of(BEHIND, 2 if len(os.sched_getaffinity(0)) >= 4 else 1))
 
 
 if __name__ == "__main__":

@@ -30,6 +30,7 @@ COMMANDS = {
     "waiting": ["--db", "a.db", "--at", "0"],
     "verdicts": ["--db", "a.db"],
     "why": ["--db", "a.db"],
+    "status": ["--db", "a.db", "--at", "0"],
     "configuration": ["--db", "a.db"],
     "export": ["--db", "a.db", "www"],
     "serve": ["--db", "a.db", "--at", "0", "127.0.0.1:0", "1"],
@@ -51,10 +52,11 @@ USAGES = {
     "configure": "configure --db <FILE> --at <N> <CONF>",
     "migrate": "migrate --from <FILE> --db <FILE> --at <N> <CONF>",
     "show": "show --db <FILE> <PATH>",
-    "list": "list --db <FILE> <SUITE>",
+    "list": "list --db <FILE> [SUITE]",
     "waiting": "waiting --db <FILE> --at <N>",
     "verdicts": "verdicts --db <FILE>",
     "why": "why --db <FILE> [NAME]",
+    "status": "status --db <FILE> --at <N>",
     "configuration": "configuration --db <FILE>",
     "export": "export --db <FILE> <DIR>",
     "serve": "serve --db <FILE> --at <N> <ADDRESS> <COUNT>",
@@ -68,8 +70,8 @@ OPTIONS = {
     "waiting": ["--json"],
     "verdicts": ["--json"],
     "why": ["--at <N>", "--json"],
-    "export": ["--at <N>", "--signed", "--unsigned", "--by-hash"],
-    "serve": ["--moments <MOMENTS>", "--log", "--export <DIR>", "--signed", "--unsigned", "--by-hash"],
+    "export": ["--at <N>", "--signed", "--unsigned", "--by-hash", "--key <NAME>"],
+    "serve": ["--moments <MOMENTS>", "--log", "--refuse-origin", "--export <DIR>", "--signed", "--unsigned", "--by-hash", "--key <NAME>"],
 }
 
 

@@ -189,10 +189,12 @@ class Served(Configurations):
             shown = serving.answer(get("dists/box/main/binary-arm64/Packages"))
             self.assertIn(b"\r\n\r\nPackage: hello\nVersion: 1.0-1\nArchitecture: arm64\n", shown)
 
-    def test_no_request_asks_for_it(self):
+    def test_no_request_changes_it(self):
         with Serving(self.made(), 3) as serving:
-            for request in (b"POST /configure HTTP/1.1\r\n\r\n", get("configuration"), b"PUT /configuration HTTP/1.1\r\nContent-Length: 0\r\n\r\n"):
-                self.assertEqual(serving.answer(request), replied("404 Not Found", b"404 Not Found\n"))
+            self.assertEqual(serving.answer(b"POST /configure HTTP/1.1\r\n\r\n"), replied("404 Not Found", b"404 Not Found\n"))
+            refused = serving.answer(b"PUT /configuration HTTP/1.1\r\nContent-Length: 0\r\n\r\n")
+            self.assertTrue(refused.startswith(b"HTTP/1.1 405 Method Not Allowed\r\n"), refused)
+            self.assertEqual(serving.answer(get("configuration")), replied("200 OK", BOX.encode()))
 
 
 class Kills(Configurations):

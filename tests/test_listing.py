@@ -122,6 +122,23 @@ class Listing(Archive):
         self.assertEqual(self.ran("list", "--db", self.db, "box"), (0, "".join(f"{line}\n" for line in wanted), ""))
         self.assertEqual(self.ran("list", "--db", self.db, "lab"), (0, "bee 1.0 amd64 main bee\n", ""))
 
+    def test_all_suites_have_their_codenames_in_front(self):
+        self.assertEqual(self.ran("list", "--db", self.db), (0, "", ""))
+        self.upload("zebra", "1.0", [("zebra", "amd64")], with_source=True)
+        self.upload("bee", "1.0", [("bee", "amd64")], distribution="lab")
+        self.upload("ant", "2:1.0-1", [("libant", "amd64")], component="extra")
+        self.assertEqual(self.line(0, "run", self.db, "--at", "1").count("accepted"), 3)
+        wanted = ["box zebra 1.0 source main zebra", "box libant 2:1.0-1 amd64 extra ant", "box zebra 1.0 amd64 main zebra", "lab bee 1.0 amd64 main bee"]
+        self.assertEqual(self.ran("list", "--db", self.db), (0, "".join(f"{line}\n" for line in wanted), ""))
+
+    def test_all_suites_as_json_name_their_suites(self):
+        files = self.upload("bee", "1.0", [("bee", "amd64")], distribution="lab")
+        self.line(0, "run", self.db, "--at", "1")
+        deb = files["bee_1.0_amd64.deb"]
+        file = f'{{"path":"pool/main/b/bee/bee_1.0_amd64.deb","sha256":"{digest("sha256", deb)}","size":{len(deb)}}}'
+        wanted = f'{{"architecture":"amd64","component":"main","files":[{file}],"package":"bee","source":"bee","suite":"lab","version":"1.0"}}\n'
+        self.assertEqual(self.ran("list", "--json", "--db", self.db), (0, wanted, ""))
+
     def test_items_as_json_have_their_files(self):
         files = self.upload("zebra", "1.0", [("zebra", "amd64")], with_source=True)
         self.line(0, "run", self.db, "--at", "1")

@@ -3,6 +3,8 @@ import contextlib
 import io
 import os
 import pathlib
+import subprocess
+import sys
 import tempfile
 import unittest
 import unittest.mock
@@ -16,6 +18,7 @@ echo "$* RT_JOBS=$RT_JOBS" >> {room}/asked
 test $# = 1 && echo "7 passed, {failed} failed" && exit {failed}
 exit 0
 """
+WORK = r"\AIt took [\d,]+ seconds of processor, on \d+ processors\. One adds 5,000,000 numbers in \d+\.\d\d seconds\.\Z"
 
 
 class Gate(unittest.TestCase):
@@ -40,9 +43,10 @@ class Gate(unittest.TestCase):
         with unittest.mock.patch.dict(os.environ, changes), contextlib.redirect_stdout(printed):
             for name in {"RT_JOBS", "CI"} - set(changes):
                 os.environ.pop(name, None)
-            passed, count, took = run.gate()
+            passed, count, took, work = run.gate()
         self.assertRegex(took, r"\AThe gate took \d+\.\d minutes\.\Z")
-        self.assertEqual(printed.getvalue().splitlines(), [f"7 passed, {failed} failed", took])
+        self.assertRegex(work, WORK)
+        self.assertEqual(printed.getvalue().splitlines(), [f"7 passed, {failed} failed", took, work])
         return (passed, count), (self.room / "asked").read_text().splitlines()
 
     def words(self, **words):
@@ -71,6 +75,13 @@ class Gate(unittest.TestCase):
         with unittest.mock.patch.dict(os.environ, {"PATH": str(self.room / "none")}), contextlib.redirect_stdout(io.StringIO()):
             self.assertEqual(run.gate(), (0, 1))
 
+    def test_the_work_is_that_of_programs_that_ran(self):
+        """Seconds of processor that a program of a program took count."""
+        spent = run.seconds_of_children()
+        code = "import time; began = time.process_time()\nwhile time.process_time() < began + 0.3: pass"
+        subprocess.run(["sh", "-c", '"$0" -c "$1"; true', sys.executable, code], check=True)
+        self.assertGreater(run.seconds_of_children() - spent, 0.3)
+
     def test_what_failed_is_said_again(self):
         """Of what the gate prints, the lines that say what failed."""
         faults = [
@@ -88,8 +99,9 @@ class Gate(unittest.TestCase):
         (self.room / "lines").write_text("".join(f"{it}\n" for it in [*others, *faults, *others]))
         changes = {"PATH": f"{self.room}:/usr/bin:/bin", "CI": "true"}
         with unittest.mock.patch.dict(os.environ, changes), contextlib.redirect_stdout(io.StringIO()):
-            passed, count, _, *said = run.gate()
-        self.assertEqual((passed, count, said), (5, 2, [f"Of the gate: {it}" for it in faults]))
+            passed, count, _, work, *said = run.gate()
+        self.assertRegex(work, WORK)
+        self.assertEqual((passed, count, said), (5, 2, ["The minute at which each crate was proved: desk 0, desk 0.", *(f"Of the gate: {it}" for it in faults)]))
 
 
 class Lines(unittest.TestCase):
@@ -111,6 +123,19 @@ class Lines(unittest.TestCase):
         with unittest.mock.patch.object(run, "is_passed", lambda line: line == "good"):
             self.assertEqual(run.each_of(["good", "bad --part", "good", "tests.none"])(), (2, 2, "Failed: bad --part", "Failed: tests.none"))
             self.assertEqual(run.each_of(["good"])(), (1, 0))
+
+    def test_what_runs_together_is_printed_in_order(self):
+        """The first tool ends last."""
+        with tempfile.TemporaryDirectory() as room:
+            for name, seconds, status in (("slow", 1, 0), ("bad", 0, 3), ("good", 0, 0)):
+                pathlib.Path(room, name).write_text(f"import sys, time\ntime.sleep({seconds})\nprint(sys.argv)\nsys.stdout.flush()\nprint('its end', file=sys.stderr)\nsys.exit({status})\n")
+            lines, printed = [f"{room}/{it}" for it in ("slow --part 1", "bad", "good")], io.StringIO()
+            with contextlib.redirect_stdout(printed):
+                came = run.each_of(lines, 2)()
+        self.assertEqual(came, (2, 1, f"Failed: {room}/bad"))
+        wanted = [f"== {room}/slow --part 1", f"['{room}/slow', '--part', '1']", "its end"]
+        wanted += [line for name in ("bad", "good") for line in (f"== {room}/{name}", f"['{room}/{name}']", "its end")]
+        self.assertEqual(printed.getvalue().splitlines(), wanted)
 
 
 if __name__ == "__main__":

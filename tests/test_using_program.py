@@ -330,6 +330,25 @@ class Serving(Case):
         text = snippet("serve", {"127.0.0.1:8080": f"127.0.0.1:{port}"})
         self.room.start(["sh", "-ec", text], port=port)
         self.assertIn("Codename: box\n", self.shell(f"curl -sS --fail http://127.0.0.1:{port}/dists/box/Release"))
+        for words, wanted in (("", "422"), ("-H 'Origin: null'", "403")):
+            self.assertEqual(self.shell(f"curl -sS -o got -w '%{{http_code}}' {words} -X POST http://127.0.0.1:{port}/copy/box/box/hello"), wanted)
+
+    @needs("dpkg-deb", "chromium")
+    def test_no_form_of_a_page_changes_anything(self):
+        """Neither a form, a fetch nor a beacon of a page takes a package out of a suite, and a PUT does not come. Without the option each of the first does."""
+        self.ready()
+        self.shell('archive put --db box.db --at "$(date +%s)" $(cat files); archive run --db box.db --at "$(date +%s)"')
+        for words, status, shown in ((["--refuse-origin"], "403", "hello 1.0-1 source main hello\nhello 1.0-1 amd64 main hello\n"), ([], "200", "")):
+            port = self.serve("--log", *words)
+            url = f"http://127.0.0.1:{port}/remove/box/hello"
+            form = f'<form method=post action="{url}" target=frame></form><iframe name=frame></iframe>'
+            script = f"fetch('{url}', {{method: 'POST', mode: 'no-cors'}}); navigator.sendBeacon('{url}', ''); document.forms[0].submit();"
+            put = f"fetch('http://127.0.0.1:{port}/incoming/a.deb', {{method: 'PUT', body: 'abc'}});"
+            self.room.browsed(f"file://{self.room.write('page.html', f'<!doctype html>{form}<script>{script}{put}</script>')}")
+            told = self.wait_for(rf"(?s)(.*\d+ POST /remove/box/hello {status} ){{{3 if words else 1}}}")
+            self.assertNotIn(" PUT /incoming/", told)
+            self.room.end(self.process)
+            self.assertEqual(self.shell("archive list --db box.db box"), shown)
 
     @needs("dpkg-deb", "curl")
     def test_uploading_by_curl(self):
@@ -341,8 +360,14 @@ class Serving(Case):
         self.check_quick(self.wait_for(f"(?m)(^\\d+ PUT .*\n){{{len(self.names())}}}"))
         self.assertEqual(self.shell(text), "".join(f"{path}: again\n" for path in paths))
         self.assertEqual(self.shell(snippet("lists", self.at(port))), f"0 {CHANGES}\n")
+        said = self.shell(snippet("why by HTTP", self.at(port)))
+        self.assertRegex(said, rf"\Awaits {CHANGES} [0-9a-f]{{64}}\n since .* UTC\n whole\n\Z")
+        self.assertTrue(said.startswith(snippet("waits")[:len(f"waits {CHANGES} ")]))
         self.shell(f"curl -sS --fail-with-body -X POST http://127.0.0.1:{port}/queue/run")
         self.assertEqual(self.shell(snippet("lists", self.at(port))), f"accepted {CHANGES}\n")
+        said = self.shell(snippet("questions", {"127.0.0.1:8080": f"127.0.0.1:{port}"}))
+        self.assertIn("\n shown box hello 1.0-1 amd64\n", said)
+        self.assertTrue(said.endswith("box hello 1.0-1 source main hello\nbox hello 1.0-1 amd64 main hello\n"), said)
         self.check_log(snippet("log"))
 
     def check_quick(self, log):
@@ -366,7 +391,9 @@ class Serving(Case):
         path.write_text(snippets.changed(path.read_text(), {"Distribution: box": "Distribution: lab"}))
         status, printed, told = self.room.run(text)
         self.assertEqual((status, told), (1, ""))
-        self.assertEqual(printed.splitlines()[len(self.names()):][-4:-2], [f"refused 1 {CHANGES}", "No suite takes the distribution: it is no suite's Codename or Suite, and in no AlsoAcceptFor."])
+        lines = printed.splitlines()
+        self.assertEqual(lines[lines.index(f"refused 1 {CHANGES}"):][:4],
+            [f"refused 1 {CHANGES}", "No suite takes the distribution: it is no suite's Codename or Suite, and in no AlsoAcceptFor.", "distribution lab", "taken box box"])
 
     @needs("dpkg-deb")
     def test_uploading_a_package_file_alone(self):

@@ -46,7 +46,7 @@ class Site(snippets.Room):
         return printed
 
     def serve(self):
-        words = ["archive", "serve", "--db", "box.db", "--at", str(int(time.time())), f"127.0.0.1:{self.behind}", "100000"]
+        words = ["archive", "serve", "--db", "box.db", "--at", str(int(time.time())), "--refuse-origin", f"127.0.0.1:{self.behind}", "100000"]
         self.serving = self.start(words, port=self.behind)
 
     def upload(self, package, more=()):
@@ -127,25 +127,111 @@ class Proxy(unittest.TestCase):
         self.site.queue()
         self.assertEqual(self.site.sure(f"curl -sS {login} {self.site.url}/verdicts"), "accepted hello_1.0-1_amd64.changes\n")
 
+    def one_command(self, package, distribution="box"):
+        """Runs the page's command with a login. Its upload is of this package and for this distribution."""
+        changes = pathlib.Path(built(self.site.folder, package))
+        changes.write_text(snippets.changed(changes.read_text(), {"Distribution: box": f"Distribution: {distribution}"}))
+        self.site.write("home/.archive-login", f"ann:{PASSWORD}\n", 0o600)
+        text = snippet("upload with a login", {"https://archive.example.org": self.site.url, "../hello_1.0-1_amd64.changes": str(changes)})
+        return self.site.run(text)
+
     @needs("htpasswd")
     def test_uploading_in_one_command_with_a_login(self):
-        """It waits for the run of the timer, since the proxy lets nobody ask for one."""
+        """It asks for the run itself, and why an upload is refused."""
         self.site.log_in()
-        self.site.write("home/.archive-login", f"ann:{PASSWORD}\n", 0o600)
-        text = snippet("upload with a login", {"https://archive.example.org": self.site.url, "../hello_1.0-1_amd64.changes": built(self.site.folder, HELLO)})
-        timer = threading.Timer(5, self.site.queue)
-        timer.start()
-        self.addCleanup(timer.cancel)
-        status, printed, told = self.site.run(text)
-        self.assertEqual((status, printed.splitlines()[-1]), (0, "accepted hello_1.0-1_amd64.changes"), told)
-        self.site.write("home/.archive-login", "ann:a wrong one\n", 0o600)
-        status, printed, told = self.site.run(text)
+        start = time.monotonic()
+        status, printed, told = self.one_command(HELLO)
+        self.assertEqual((status, printed.splitlines()[-1], told), (0, "accepted hello_1.0-1_amd64.changes", ""))
+        self.assertLess(time.monotonic() - start, 10)
+        status, printed, told = self.one_command(uploads.Package("world"), "UNRELEASED")
+        lines = printed.splitlines()
+        self.assertEqual((status, told), (1, ""))
+        self.assertEqual(lines[3], "refused 1 world_1.0-1_amd64.changes")
+        self.assertEqual(lines[5:8], ["distribution UNRELEASED", "taken box box", "taken unstable box"])
+        self.site.write("uploaders", "ann:{PLAIN}another\n")
+        status, printed, told = self.one_command(HELLO)
         self.assertEqual((status, printed.splitlines()), (1, ["refused 401 Unauthorized verdicts", "Give --login USER:PASSWORD, or another one."]), told)
+
+    def test_uploading_by_a_proxy_that_lets_nobody_ask_for_a_run_or_why(self):
+        """The command waits for the run of the timer, and goes by the lists."""
+        self.site.write("uploaders", f"ann:{{PLAIN}}{PASSWORD}\n")
+        port = free_port()
+        text = snippet("nginx", {"location = /queue/run": "location = /none", "|configuration|metrics|(why|list)(/.*)?|json/.*)": ")"})
+        self.site.start(["nginx", "-c", self.site.proxy(text, port, self.site.behind)], port=port)
+        self.site.url = f"https://localhost:{port}"
+        for package, distribution, wanted in ((HELLO, "box", (0, "accepted")), (uploads.Package("world"), "UNRELEASED", (1, "refused 1"))):
+            timer = threading.Timer(5, self.site.queue)
+            timer.start()
+            self.addCleanup(timer.cancel)
+            status, printed, told = self.one_command(package, distribution)
+            self.assertEqual((status, f"{wanted[1]} {package.name}_1.0-1_amd64.changes" in printed.splitlines()), (wanted[0], True), told)
+            self.assertIn("has no verdict yet; trying again\n", told)
+
+    def test_what_those_with_a_login_may_ask(self):
+        """All of it is 401 without the login, and nothing of it takes another method."""
+        self.site.upload(HELLO)
+        self.site.write("uploaders", f"ann:{{PLAIN}}{PASSWORD}\n")
+        login = f"-u 'ann:{PASSWORD}'"
+        for path, wanted in (
+            ("queue", "200"),
+            ("verdicts", "200"),
+            ("why", "200"),
+            ("why/hello_1.0-1_amd64.changes", "200"),
+            ("why/hello_1.0-1%5Famd64.changes", "200"),
+            ("why/none.changes", "404"),
+            ("why/a%2Fb.changes", "404"),
+            ("why/a/b.changes", "404"),
+            ("why/%FF", "400"),
+            ("list", "200"),
+            ("list/box", "200"),
+            ("list/none", "422"),
+            ("configuration", "200"),
+            ("metrics", "200"),
+            ("json/why", "200"),
+            ("json/why/hello_1.0-1_amd64.changes", "200"),
+            ("json/list", "200"),
+            ("json/list/box", "200"),
+            ("json/queue", "200"),
+            ("json/verdicts", "200"),
+            ("json/none", "404"),
+        ):
+            with self.subTest(path):
+                self.assertEqual((self.status(path), self.status(path, login)), ("401", wanted))
+                self.assertEqual((self.status(path, f"{login} -X POST"), self.status(path, f"{login} -T box.conf")), ("403", "403"))
+        self.assertEqual((self.status("queue/run", "-X POST"), self.status("queue/run", f"{login} -X POST")), ("401", "200"))
+        self.assertEqual((self.status("queue/run", login), self.status("queue/run/", f"{login} -X POST")), ("403", "404"))
+        said = self.site.sure(f"curl -sS {login} {self.site.url}/why/hello_1.0-1_amd64.changes")
+        self.assertEqual(said, self.site.sure(f"curl -sS http://127.0.0.1:{self.site.behind}/why/hello_1.0-1_amd64.changes"))
+        self.assertRegex(said, r"\Aaccepted hello_1.0-1_amd64.changes [0-9a-f]{64}\n shown box hello 1.0-1 source\n")
+
+    def test_no_page_changes_anything_with_a_login(self):
+        """A browser sends the login that it remembers with the form of any page, and the field Origin, which the proxy hands on."""
+        self.site.write("uploaders", f"ann:{{PLAIN}}{PASSWORD}\n")
+        login = f"-u 'ann:{PASSWORD}'"
+        for origin in ("null", self.site.url):
+            page = f"{login} -H 'Origin: {origin}'"
+            self.assertEqual((self.status("queue/run", f"{page} -X POST"), self.status("incoming/a.deb", f"{page} -T box.conf")), ("403", "403"))
+            self.assertEqual((self.status("queue", page), self.status("why", page)), ("200", "200"))
+        self.assertEqual((self.status("queue/run", f"{login} -X POST"), self.status("incoming/a.deb", f"{login} -T box.conf")), ("200", "201"))
+        # The page's line takes the field off.
+        line, port = 'proxy_set_header Origin "";', free_port()
+        self.assertIn(f"`{line}`", snippets.pages())
+        text = snippet("nginx", {"server_name": f"{line} server_name"})
+        self.site.start(["nginx", "-c", self.site.proxy(text, port, self.site.behind)], port=port)
+        self.site.url = f"https://localhost:{port}"
+        self.assertEqual(self.status("queue/run", f"{login} -H 'Origin: null' -X POST"), "200")
 
     def test_what_is_not_listed_cannot_be_reached(self):
         self.site.write("uploaders", f"ann:{{PLAIN}}{PASSWORD}\n")
         for path, words, wanted in (
-            ("queue/run", "-X POST", "404 405"),
+            ("queue/run/", "-X POST", "404 405"),
+            ("queue//run", "-X POST", "401"),
+            ("why/../queue/clean", "-X POST --path-as-is", "404 405"),
+            ("queuerun", "-X POST", "404 405"),
+            ("whys", "", "404"),
+            ("lists/box", "", "404"),
+            ("json", "", "404"),
+            ("configuration/", "", "404"),
             ("queue/clean", "-X POST", "404 405"),
             ("copy/box/box/hello", "-X POST", "404 405"),
             ("remove/box/hello", "-X POST", "404 405"),
@@ -198,6 +284,22 @@ class Proxy(unittest.TestCase):
         for path in ("dists/box/Release", "queue", "pool/none.html"):
             got = self.site.sure(f"curl -sS -D - -o got https://localhost:{port}/{path}").lower().splitlines()
             self.assertEqual([it for it in heads[2:] if it not in got], [], got)
+
+    def test_the_pages_of_the_archive(self):
+        """All but that of uploads are there without a login, and each has its own policy alone."""
+        self.site.upload(HELLO)
+        self.site.write("uploaders", f"ann:{{PLAIN}}{PASSWORD}\n")
+        login = f"-u 'ann:{PASSWORD}'"
+        for path, words in (("", ""), ("index.html", ""), ("suites/box/index.html", ""), ("uploads.html", login)):
+            got = self.site.sure(f"curl -sS --fail {words} -D - -o got {self.site.url}/{path}").lower().splitlines()
+            self.assertIn("content-type: text/html; charset=utf-8", got)
+            self.assertIn("x-content-type-options: nosniff", got)
+            [policy] = [it for it in got if it.startswith("content-security-policy: ")]
+            self.assertIn("frame-ancestors 'none'", policy)
+            self.assertIn("script-src 'sha256-", policy)
+        self.assertEqual([self.status(it) for it in ("uploads.html", "suites/none/index.html", "suites/", "dists/box/index.html")], ["401", "404", "404", "404"])
+        for path in ("", "index.html", "uploads.html", "suites/box/index.html", "remove/box/..%2F..%2Fsuites%2Fhello"):
+            self.assertEqual(self.status(path, f"{login} -X POST"), "403", path)
 
     def test_the_largest_file_passes(self):
         body = uploads.deb_of(uploads.Package("large", pad=4_190_000))

@@ -250,11 +250,11 @@ class Nginx(Case):
         self.assertEqual((self.status(url, "uploads.html"), self.status(url, "uploads.html", f"-u '{LOGIN}'")), ("401", "200"))
 
     def test_uploads_beside_the_tree(self):
-        """The last two locations of the proxy go beside those of the tree."""
+        """The last three locations of the proxy go beside those of the tree."""
         self.export()
-        *_, incoming, lists, _ = re.split(r"(?m)^(?=    location |\})", snippet("nginx"))
+        *_, incoming, run, lists, _ = re.split(r"(?m)^(?=    location |\})", snippet("nginx"))
         limit = re.search(r"    client_max_body_size.*\n", snippet("nginx"))[0]
-        text = re.sub(r"(?m)^\}", f"{limit}{incoming}{lists}}}", snippet("tree by nginx"))
+        text = re.sub(r"(?m)^\}", f"{limit}{incoming}{run}{lists}}}", snippet("tree by nginx"))
         self.room.write("uploaders", f"{LOGIN.replace(':', ':{PLAIN}')}\n")
         behind = free_port()
         self.room.start(["archive", "serve", "--db", "box.db", "--at", str(int(time.time())), f"127.0.0.1:{behind}", "100"], port=behind)
@@ -263,7 +263,9 @@ class Nginx(Case):
         self.assertEqual(self.status(url, "incoming/again.changes", words), "401")
         self.assertEqual(self.status(url, "incoming/again.deb", f"{words} -u '{LOGIN}'"), "201")
         self.assertEqual((self.status(url, "verdicts"), self.status(url, "verdicts", f"-u '{LOGIN}'")), ("401", "200"))
-        self.assertEqual((self.status(url, "dists/box/Release"), self.status(url, "queue/run", "-X POST")), ("200", "404"))
+        self.assertEqual((self.status(url, "why"), self.status(url, "why", f"-u '{LOGIN}'")), ("401", "200"))
+        self.assertEqual((self.status(url, "queue/run", "-X POST"), self.status(url, "queue/run", f"-X POST -u '{LOGIN}'")), ("401", "200"))
+        self.assertEqual((self.status(url, "dists/box/Release"), self.status(url, "queue/clean", "-X POST")), ("200", "404"))
 
     def with_key(self):
         """Makes the page's key."""

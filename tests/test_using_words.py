@@ -8,6 +8,9 @@ from tests.program import DATA, NAMES, PROGRAM
 from tests.snippets import snippet
 from tests.wants import main, needs, needs_file
 
+# The moment that the page has in its example: Sat, 02 Jul 2016 05:20:50 UTC.
+AT = 1467436850
+
 
 def keys(line):
     return sorted(json.loads(line))
@@ -43,19 +46,25 @@ class Words(snippets.Case):
         for name in NAMES:
             text = pathlib.Path(DATA, name).read_text(encoding="utf-8")
             self.room.write(f"work/{name}", snippets.changed(text, changes) if name == other else text)
-        self.shell(f"archive init --db box.db --at 1 box.conf && archive put --db box.db --at 1 {' '.join(NAMES)}", self.room.work)
-        self.shell("archive run --db box.db --at 1", self.room.work)
+        self.shell(f"archive init --db box.db --at {AT} box.conf && archive put --db box.db --at {AT} {' '.join(NAMES)}", self.room.work)
+        self.shell(f"archive run --db box.db --at {AT}", self.room.work)
 
     def test_why_an_upload_waits(self):
         self.why({"abc": "ab"}, NAMES[1])
-        for words in (NAMES[0], "", "--at 1"):
+        for words in (NAMES[0], "", f"--at {AT}"):
             self.assertEqual(self.shell(f"archive why --db box.db {words}", self.room.work), snippet("waits"))
         wanted = json.loads(snippet("waits as JSON"))
-        digests = [line.split()[-1] for line in snippet("waits").splitlines()]
+        digests = [line.split()[-1] for line in snippet("waits").splitlines() if not line.startswith(" since ")]
         for it, digest in zip((wanted, *wanted["lacks"], *wanted["came"]), digests):
             self.assertEqual(it["sha256"], f"{digest[:4]}..")
             it["sha256"] = digest
         self.assertEqual(json.loads(self.shell("archive why --db box.db --json", self.room.work)), wanted)
+
+    def test_where_a_package_is(self):
+        self.archive()
+        self.assertEqual(self.shell(snippet("where it is"), self.room.work), "box hello 1.0-1 amd64 main hello\n")
+        [line] = self.shell("archive list --db box.db --json", self.room.work).splitlines()
+        self.assertEqual(keys(line), sorted([*keys(snippet("json").splitlines()[0]), "suite"]))
 
     @needs("gpg", "apt-get")
     def test_a_tree_that_gpg_signs(self):

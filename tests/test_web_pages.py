@@ -13,6 +13,7 @@ import tempfile
 import unittest
 import urllib.parse
 
+from tests import web_pages
 from tests.program import DATA, MOMENT, NAMES, ROOT, Lines
 from tests.snippets import changed
 from tests.wants import main, needs_that, path_of
@@ -21,13 +22,15 @@ from uploads import uploads
 SOURCES = pathlib.Path(ROOT, "crates/pages/src")
 BROWSER = path_of("chromium") or path_of("chromium-browser") or path_of("google-chrome")
 
-# What a page may have: its elements with their attributes. `meta` and `link` have no end.
+# What a page may have: its elements with their attributes. `meta`, `link` and `input` have no end.
 ELEMENTS = {
     "html": {"lang"}, "head": set(), "meta": {"charset", "http-equiv", "name", "content"}, "title": set(), "link": {"rel", "href"}, "style": set(),
-    "body": set(), "h1": set(), "h2": set(), "p": set(), "a": {"href"}, "code": set(), "pre": {"class"}, "span": {"class"}, "div": {"class"},
-    "table": set(), "tr": set(), "th": set(), "td": set(), "script": set(),
+    "body": set(), "header": set(), "nav": set(), "main": set(), "section": {"class"}, "footer": set(), "h1": set(), "h2": set(), "p": {"class"},
+    "a": {"href", "aria-current"}, "b": set(), "code": set(), "pre": set(), "span": {"class"}, "div": {"class"}, "dl": set(), "dt": set(), "dd": set(),
+    "input": {"type", "placeholder", "aria-label", "hidden"}, "table": set(), "thead": set(), "tbody": set(), "tr": {"class"}, "th": set(),
+    "td": {"class"}, "script": set(),
 }
-WITHOUT_END = {"meta", "link"}
+WITHOUT_END = {"meta", "link", "input"}
 
 # A description that would be markup, a script and the end of an attribute, if it were not escaped.
 HOSTILE = "\"' onclick=alert(1)><script>document.title='broken'</script><b>&lt;&amp; é </p></table></style><!--"
@@ -37,9 +40,7 @@ def source(name):
     return (SOURCES / name).read_text(encoding="utf-8")
 
 
-def constant(name):
-    """The text of a constant of the frame, which has no escapes."""
-    return re.search(rf'const {name}: &str =\s*"([^"\\]*)";', source("frame.rt"))[1]
+constant = web_pages.constant
 
 
 def digest(text):
@@ -82,36 +83,36 @@ class Page(html.parser.HTMLParser):
     def links(self):
         return [attrs["href"] for tag, attrs in self.elements if tag == "a"]
 
-    def rows(self):
-        return sum(tag == "tr" for tag, _ in self.elements)
-
 
 class Sources(unittest.TestCase):
-    def test_the_policy_allows_the_style_and_the_script_alone(self):
+    def test_the_policy_allows_the_style_and_the_two_scripts_alone(self):
         rules = dict(it.strip().split(" ", 1) for it in constant("POLICY").split(";"))
-        wanted = {"default-src": "'none'", "style-src": digest(constant("STYLE")), "script-src": digest(constant("SCRIPT")), "img-src": "data:"}
+        wanted = {"default-src": "'none'", "style-src": digest(constant("STYLE")), "img-src": "data:"}
+        wanted["script-src"] = f"{digest(constant('SCRIPT'))} {digest(constant('FILTER'))}"
         self.assertEqual(rules, {**wanted, "base-uri": "'none'", "form-action": "'none'"})
 
-    def test_the_script_is_short_and_the_style_has_dark_mode(self):
+    def test_the_scripts_are_short_and_the_style_has_dark_mode(self):
         self.assertLessEqual(len(constant("SCRIPT")), 85)
+        self.assertLessEqual(len(constant("FILTER")), 200)
         self.assertIn("color-scheme:light dark", constant("STYLE"))
-        for text in (constant("STYLE"), constant("SCRIPT")):
+        for text in (constant("STYLE"), constant("SCRIPT"), constant("FILTER")):
             self.assertNotIn("</", text)
 
     def test_the_sentences_are_those_of_the_page_on_faults(self):
         rows = re.findall(r"^\| `(accepted|refused \d+)` \| (.*?) \| ", pathlib.Path(ROOT, "docs/FAULTS.md").read_text(encoding="utf-8"), re.M)
         marked = [(word, re.sub(r"`([^`]*)`", r"<code>\1</code>", html.escape(text, quote=False))) for word, text in rows]
-        words = re.findall(r'Verdict::(\w+) => "([^"]*)"', source("verdict.rt"))
+        words = re.findall(r'Verdict::(\w+) => "(accepted|refused \d+)"', source("verdict.rt"))
         means = dict(re.findall(r'Verdict::(\w+) => \{\s*"([^"]*)"', source("verdict.rt")))
         self.assertEqual([(word, means[name]) for name, word in words], marked)
 
     def test_a_page_has_two_doors(self):
-        """Only `push_markup`, which takes constants, and `push_text` append to a page."""
+        """Only `push_markup`, which takes constants, and `push_text` append to a page. The lists of grouped.rt are of items, and it has no text."""
         self.assertIn("pub fn push_markup(markup: &'static str, ", source("escape.rt"))
         for path in sorted(SOURCES.glob("*.rt")):
-            if path.name != "escape.rt":
+            if path.name not in ("escape.rt", "grouped.rt"):
                 code = re.sub(r"^ *//.*$", "", path.read_text(encoding="utf-8"), flags=re.M)
                 self.assertNotRegex(code, r"\.(?:push|push_str|extend|extend_from_slice|insert|insert_str)\(|write!", path.name)
+        self.assertNotIn("String", source("grouped.rt"))
         self.assertEqual(source("link.rt").count("append_to(&mut text)"), source("link.rt").count("append_to"))
 
 
@@ -143,8 +144,12 @@ class Tree(Lines):
         self.assertEqual(it.faults, [], path)
         self.assertEqual(it.of("style"), [constant("STYLE")])
         self.assertIn(constant("POLICY"), [attrs.get("content") for tag, attrs in it.elements if tag == "meta"])
-        self.assertLessEqual(set(it.of("script")), {constant("SCRIPT")})
+        self.assertLessEqual(set(it.of("script")), {constant("SCRIPT"), constant("FILTER")})
         return it
+
+    def assert_is(self, path, wanted):
+        """The page at a path has these bytes."""
+        self.assertEqual(pathlib.Path(self.tree, path).read_text(encoding="utf-8").split("\n"), wanted.split("\n"))
 
 
 class Exported(Tree):
@@ -169,36 +174,62 @@ class Exported(Tree):
         self.assertNotIn(":", link)
         self.assertTrue(os.path.isfile(os.path.join(self.tree, os.path.dirname(path), urllib.parse.unquote(link))), link)
 
-    def test_the_pages_have_what_is_shown_and_no_stray_markup(self):
+    def suites(self):
+        """What the first page says of the two suites."""
+        box = {
+            "codename": "box", "architectures": ["amd64", "source"], "components": ["main", "contrib"], "packages": 1, "sources": 0,
+            "date": "Sat, 02 Jul 2016 05:20:50 UTC", "description": HOSTILE,
+        }
+        lab = {"codename": "lab", "architectures": ["amd64"], "components": ["main"], "packages": 0, "sources": 0, "date": "Thu, 01 Jan 1970 00:00:00 UTC"}
+        return [box, lab]
+
+    def test_each_page_has_the_bytes_that_it_should(self):
+        self.export()
+        self.assert_is("index.html", web_pages.index_page("Archive", self.suites()))
+        item = {
+            "kind": "package", "package": "hello", "synopsis": "greets", "version": "1.0-1", "architecture": "amd64", "component": "main", "source": "hello",
+            "files": [("pool/main/h/hello/hello_1.0-1_amd64.deb", os.path.getsize(f"{DATA}/{NAMES[1]}"))],
+        }
+        self.assert_is("dists/box/index.html", web_pages.suite_page("Archive", self.suites()[0], [item]))
+        self.assert_is("dists/lab/index.html", web_pages.suite_page("Archive", self.suites()[1], []))
+        waiting = [("waits_1.0-1_amd64.changes", ["hello_1.0-2_amd64.deb"])]
+        judged = [("accepted", NAMES[0]), ("refused 1", "other_1.0-1_amd64.changes")]
+        self.assert_is("uploads.html", web_pages.uploads_page("Archive", waiting, judged, web_pages.meanings()))
+
+    def test_there_is_no_stray_markup_and_each_link_leads_somewhere(self):
         self.export()
         first = self.page("index.html")
         self.assertIn(HOSTILE, first.of("p"))
         self.assertEqual(first.of("title"), ["Suites"])
-        lines = re.findall(r"<pre[^>]*>(.*?)</pre>", pathlib.Path(self.tree, "index.html").read_text(encoding="utf-8"))
-        plain = [html.unescape(re.sub("<[^>]*>", "", it)) for it in lines]
-        self.assertEqual(plain, ["deb [trusted=yes] URL/ box main contrib", "deb [trusted=yes] URL/ lab main"])
-        self.assertIn("Items: 1. Last changed: Sat, 02 Jul 2016 05:20:50 UTC.", first.of("p"))
-        suite = self.page("dists/box/index.html")
-        self.assertEqual(suite.of("title"), ["box"])
-        self.assertEqual(suite.of("td"), ["1.0-1", "amd64", "main", "hello"])
-        self.assertIn("../../pool/main/h/hello/hello_1.0-1_amd64.deb", suite.links())
-        self.assertEqual(self.page("dists/lab/index.html").rows(), 1)
         for path in ("index.html", "uploads.html", "dists/box/index.html", "dists/lab/index.html"):
             for link in self.page(path).links():
                 self.assert_leads(path, link)
 
-    def test_the_page_of_uploads_has_what_waits_and_each_verdict(self):
-        self.export()
-        page = self.page("uploads.html")
-        cells = page.of("td")
-        self.assertEqual(cells[:2], ["waits_1.0-1_amd64.changes", "hello_1.0-2_amd64.deb"])
-        self.assertEqual([it for it in cells if re.match(r"accepted|refused", it)], ["refused 1", "accepted"])
-
-    def test_a_signed_tree_names_the_key(self):
+    def test_a_signed_tree_names_the_one_key(self):
         self.export("--signed")
-        text = pathlib.Path(self.tree, "index.html").read_text(encoding="utf-8")
-        self.assertIn("deb [signed-by=/usr/share/keyrings/box.gpg] ", text)
-        self.assertNotIn("trusted", text)
+        self.assert_is("index.html", web_pages.index_page("Archive", self.suites(), key="box.gpg"))
+        self.assertNotIn("trusted", pathlib.Path(self.tree, "index.html").read_text(encoding="utf-8"))
+
+    def test_the_key_is_a_link_if_it_is_in_the_tree(self):
+        self.export("--signed")
+        pathlib.Path(self.tree, "box.gpg").write_bytes(b"key")
+        self.export("--signed")
+        self.assert_is("index.html", web_pages.index_page("Archive", self.suites(), key="box.gpg", is_here=True))
+
+    def test_a_key_of_another_name(self):
+        for name in ("archive-2026.asc", "a.pgp", f"{96 * 'k'}.gpg"):
+            self.export("--signed", "--key", name)
+            self.assert_is("index.html", web_pages.index_page("Archive", self.suites(), key=name))
+            self.assertNotIn("box.gpg", pathlib.Path(self.tree, "index.html").read_text(encoding="utf-8"))
+        pathlib.Path(self.tree, "a.pgp").write_bytes(b"key")
+        for name, is_here in (("a.pgp", True), ("box.gpg", False)):
+            self.export("--signed", "--key", name)
+            self.assert_is("index.html", web_pages.index_page("Archive", self.suites(), key=name, is_here=is_here))
+
+    def test_a_refused_name_of_a_key_makes_nothing(self):
+        for words in (["--signed", "--key", "../box.gpg"], ["--signed", "--key", "box"], ["--key", "a.gpg"]):
+            self.line(2, "export", self.db, *words, self.tree)
+            self.assertFalse(os.path.exists(self.tree), words)
 
     @needs_that(BROWSER, "chromium")
     def test_a_browser_runs_the_script_and_nothing_else(self):
@@ -208,7 +239,81 @@ class Exported(Tree):
         page = Page(ran.stdout.strip())
         self.assertEqual(page.of("title"), ["Suites"])
         self.assertIn(HOSTILE, page.of("p"))
-        self.assertEqual(page.of("span"), [f"file://{self.tree}/"] * 2)
+        self.assertEqual(page.of("span"), [f"file://{self.tree}/"] * 5)
+
+    @needs_that(BROWSER, "chromium")
+    def test_a_browser_shows_the_filter(self):
+        self.export()
+        words = ["--headless", "--no-sandbox", "--disable-gpu", f"--user-data-dir={self.room}/browser", "--dump-dom"]
+        ran = subprocess.run([BROWSER, *words, f"file://{self.tree}/dists/box/index.html"], capture_output=True, text=True, check=True, timeout=120)
+        fields = [attrs for tag, attrs in Page(ran.stdout.strip()).elements if tag == "input"]
+        self.assertEqual(fields, [{"type": "search", "placeholder": "Filter", "aria-label": "Filter"}])
+
+
+class Named(Tree):
+    """What the header calls the archive."""
+
+    def test_the_name_is_the_origin_of_the_first_suite_else_its_label(self):
+        suite = "Codename: {}\nArchitectures: amd64\nComponents: main\n{}"
+        for fields, name in (("Origin: Acme & Sons\nLabel: Packages\n", "Acme & Sons"), ("Label: Packages\n", "Packages"), ("", "Archive")):
+            with self.subTest(fields), tempfile.TemporaryDirectory() as room:
+                text = suite.format("box", fields) + "\n" + suite.format("lab", "Origin: Another\n")
+                self.line(0, "init", f"{room}/named.db", "--at", "0", self.file("named.conf", text))
+                self.line(0, "export", f"{room}/named.db", f"{room}/www")
+                for path in ("index.html", "uploads.html", "dists/lab/index.html"):
+                    page = Page(pathlib.Path(room, "www", path).read_text(encoding="utf-8"))
+                    self.assertEqual((page.faults, page.of("b")), ([], [name]), path)
+
+    CONF = "Codename: box\nArchitectures: amd64\nComponents: main\n"
+
+
+class Described(Tree):
+    """A package that says of itself what would be markup."""
+
+    CONF = "Origin: Acme\nCodename: box\nArchitectures: amd64\nComponents: main\n"
+
+    def test_a_description_is_a_text(self):
+        control = f"Package: sly\nVersion: 1.0-1\nArchitecture: amd64\nMaintainer: {HOSTILE}\nDescription: {HOSTILE}\n more of it\n"
+        for name, body in uploads.upload_with("sly", "1.0-1", b"deb of sly", control.encode()).items():
+            self.put(name, body.decode())
+        self.assertEqual(self.line(0, "run", self.db, "--at", MOMENT), "accepted sly_1.0-1_amd64.changes\n")
+        self.export()
+        item = {
+            "kind": "package", "package": "sly", "synopsis": HOSTILE, "version": "1.0-1", "architecture": "amd64", "component": "main", "source": "sly",
+            "files": [("pool/main/s/sly/sly_1.0-1_amd64.deb", len(b"deb of sly"))],
+        }
+        self.assert_is("dists/box/index.html", web_pages.suite_page("Acme", {"codename": "box", "packages": 1, "sources": 0}, [item]))
+        self.assertIn(HOSTILE, self.page("dists/box/index.html").of("div"))
+
+
+class Grouped(Tree):
+    """The page of a suite that shows several packages of a source."""
+
+    CONF = "Codename: box\nArchitectures: amd64 source\nComponents: main\n"
+
+    def accept(self, source, packages, with_source):
+        """Has an upload of packages of a source accepted, with the source or without."""
+        files = uploads.source_of(uploads.Package(source, source=True)) if with_source else {}
+        for package in packages:
+            control = f"Package: {package}\nSource: {source}\nVersion: 1.0-1\nArchitecture: amd64\nMaintainer: Ann <ann@example.org>\nDescription: greets\n"
+            files |= {f"{package}_1.0-1_amd64.deb": f"deb of {package}".encode(), f"{package}_1.0-1_amd64.control": control.encode()}
+        record = uploads.changes_of(source, "1.0-1", files).decode().replace(f"Binary: {source}", f"Binary: {' '.join(packages)}")
+        folder = f"{self.room}/{source}"
+        paths = uploads.write(folder, {**files, f"{source}_1.0-1_amd64.changes": record.encode()})
+        self.line(0, "put", self.db, "--at", MOMENT, *paths)
+        self.assertEqual(self.line(0, "run", self.db, "--at", MOMENT), f"accepted {source}_1.0-1_amd64.changes\n")
+
+    def test_rows_of_one_source_stand_together(self):
+        self.accept("pear", ["zebra", "apple", "pear"], True)
+        self.accept("fig", ["fig", "quince"], True)
+        self.accept("lime", ["banana"], False)
+        self.accept("fi+", ["nut"], True)
+        self.export()
+        page = self.page("dists/box/index.html")
+        kinds = [attrs["class"] for tag, attrs in page.elements if tag == "tr" and attrs]
+        groups = (("fi+", True, ["nut"]), ("fig", True, ["fig", "quince"]), ("lime", False, ["banana"]), ("pear", True, ["apple", "pear", "zebra"]))
+        rows = [row for source, is_here, packages in groups for row in [("source", source)] * is_here + [("package", it) for it in packages]]
+        self.assertEqual(list(zip(kinds, page.of("b")[1:])), rows)
 
 
 class Waits(Tree):
@@ -228,8 +333,14 @@ class Waits(Tree):
         """What waits at a moment and what it lacks, as the page has it."""
         self.export("--at", str(at))
         self.page("uploads.html")
-        [text] = re.findall("<h2>Waiting</h2>(.*)<h2>Judged", pathlib.Path(self.tree, "uploads.html").read_text(encoding="utf-8"), re.S)
-        return re.findall("<tr><td>(.*)</td><td>(.*)</td></tr>", text)
+        page = pathlib.Path(self.tree, "uploads.html").read_text(encoding="utf-8")
+        [text] = re.findall('<h2>Waiting <span class="dim">[0-9]+</span></h2>(.*)<h2>Judged', page, re.S)
+        rows = re.findall('<tr><td>(.*)</td><td class="name">(.*)</td><td>(.*)</td></tr>', text)
+        found = [(name, " ".join(re.findall("<code>(.*?)</code>", lacks))) for _, name, lacks in rows]
+        tags = [re.sub("<[^>]*>", "", tag) for tag, _, _ in rows]
+        self.assertEqual(tags, [f"{len(lacks.split())} missing" if lacks else "whole" for _, lacks in found])
+        self.assertEqual("Nothing waits." in text, not rows)
+        return found
 
     def test_what_lacks_of_each_that_waits(self):
         day = 86_400

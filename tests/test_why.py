@@ -78,7 +78,7 @@ def print_of(body):
 
 def upload_of(name, body, verdict, **more):
     """An upload as an object, with these keys."""
-    none = {"means": None, "todo": None, "today": None, "names": [], "lacks": [], "came": [], "ended": []}
+    none = {"means": None, "todo": None, "today": None, "since": None, "names": [], "lacks": [], "came": [], "ended": []}
     return {"upload": name, "sha256": digest("sha256", body), "verdict": verdict, **none, **more}
 
 
@@ -109,11 +109,21 @@ def cleaned(name, body, verdict):
     return told(first_of(name, body, verdict), lines), upload_of(name, body, verdict, means=means, todo=todo)
 
 
-def waits(name, body, *found):
-    """What is said of an upload that waits: of each file a word, its name and its body."""
-    lines = [f"{word} {file} {print_of(it)}" for word, file, it in found] or ["whole"]
+# Moments, and how a line says them, as Release has its Date.
+DATES = {
+    1: "Thu, 01 Jan 1970 00:00:01 UTC",
+    2: "Thu, 01 Jan 1970 00:00:02 UTC",
+    3: "Thu, 01 Jan 1970 00:00:03 UTC",
+    1467436850: "Sat, 02 Jul 2016 05:20:50 UTC",
+    4102444799: "Thu, 31 Dec 2099 23:59:59 UTC",
+}
+
+
+def waits(name, body, *found, since=1):
+    """What is said of an upload that waits: the moment from which its .changes counts, and of each file a word, its name and its body."""
+    lines = [f"since {DATES[since]}"] + ([f"{word} {file} {print_of(it)}" for word, file, it in found] or ["whole"])
     lists = {word: [{"name": file, "size": len(it), "sha256": digest("sha256", it)} for key, file, it in found if key == word] for word in ("lacks", "came", "ended")}
-    return told(f"waits {name} {digest('sha256', body)}", lines), upload_of(name, body, None, **lists)
+    return told(f"waits {name} {digest('sha256', body)}", lines), upload_of(name, body, None, since=since, **lists)
 
 
 # ---- what is asked
@@ -442,17 +452,17 @@ class Waiting(Why):
         self.put({DEB: b"abc"})
         self.put({DEB: b"ended"})
         self.put({CHANGES: body, CONTROL: files[CONTROL], DEB: b"counts"}, at=2)
-        self.check([waits(CHANGES, body)], CHANGES)
-        self.check([waits(CHANGES, body)], "--at", str(DAY), CHANGES)
+        self.check([waits(CHANGES, body, since=2)], CHANGES)
+        self.check([waits(CHANGES, body, since=2)], "--at", str(DAY), CHANGES)
         for words in ([], [CHANGES]):
-            self.check([waits(CHANGES, body, ("ended", DEB, b"abc"), ("came", DEB, b"counts"))], "--at", str(DAY + 1), *words)
+            self.check([waits(CHANGES, body, ("ended", DEB, b"abc"), ("came", DEB, b"counts"), since=2)], "--at", str(DAY + 1), *words)
         self.check([], "--at", str(DAY + 2))
         self.assertEqual(self.ran("why", "--db", self.db, "--at", str(DAY + 2), CHANGES), NOT_FOUND)
         # What was cleaned counts as if it had not come, and nothing ends if no moment is given.
         self.line(0, "clean", self.db, "--at", str(DAY + 1))
-        self.check([waits(CHANGES, body, ("lacks", DEB, b"abc"), ("came", DEB, b"counts"))], CHANGES)
+        self.check([waits(CHANGES, body, ("lacks", DEB, b"abc"), ("came", DEB, b"counts"), since=2)], CHANGES)
         self.put({DEB: b"abc"}, at=DAY + 1)
-        self.check([waits(CHANGES, body)], "--at", str(DAY + 1))
+        self.check([waits(CHANGES, body, since=2)], "--at", str(DAY + 1))
 
     def test_all_that_wait_are_in_the_order_of_judging(self):
         """By their names, and those of one name by their digests; whichever of them came first."""
@@ -463,11 +473,25 @@ class Waiting(Why):
         self.put({"zebra.changes": first})
         self.put({"ant.changes": one}, at=3)
         files = [("lacks", name, it) for name, it in sorted(package().items())]
-        wanted = [waits("ant.changes", one, *files), waits("zebra.changes", first, *files), waits("zebra.changes", second, *files)]
+        wanted = [waits("ant.changes", one, *files, since=3), waits("zebra.changes", first, *files), waits("zebra.changes", second, *files)]
         self.check(wanted)
         self.check(wanted[1:], "zebra.changes")
         self.check(wanted, "--at", str(DAY))
         self.check(wanted[:1], "--at", str(DAY + 2))
+
+    def test_since_when_one_waits(self):
+        """The moment of its .changes, the greatest at which that came; not that of a file that it lists, nor of an earlier question."""
+        files = package()
+        body = record(files)
+        self.put({CONTROL: files[CONTROL]}, at=1467436840)
+        self.put({CHANGES: body}, at=1467436850)
+        self.put({DEB: b"abc"}, at=1467436852)
+        for words in ([], ["--at", "1"], ["--at", "1467436860"]):
+            self.check([waits(CHANGES, body, since=1467436850)], *words)
+        self.put({CHANGES: body}, at=2)
+        self.check([waits(CHANGES, body, since=1467436850)])
+        self.put({CHANGES: body, "other.changes": body}, at=4102444799)
+        self.check([waits(CHANGES, body, since=4102444799), waits("other.changes", body, since=4102444799)])
 
     def test_one_name_that_waits_and_was_judged(self):
         """What waits comes first, then what was judged, in the order of judging."""
