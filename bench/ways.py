@@ -6,6 +6,7 @@ ends the process if that is wrong, so that no refusal is measured.
 import contextlib
 import os
 import pathlib
+import re
 import shutil
 import time
 
@@ -84,6 +85,18 @@ class Lines:
         check_run(printed[len(delivered):], count)
         return taken
 
+    def fill(self, groups):
+        """Delivers each group of uploads and runs the queue after it, by one list of commands."""
+        text, wanted = "", b""
+        for group in groups:
+            paths = [path for it in group for path in it]
+            text += "".join(f"put {path}\n" for path in paths) + "run\n"
+            wanted += put_lines(paths, "new") + b"".join(b"accepted\n" for _ in group)
+        pathlib.Path(f"{self.db}.list").write_text(text)
+        taken, printed = self.line("batch", f"{self.db}.list")
+        check(re.sub(rb"(?m)^(accepted) .*$", rb"\1", printed), wanted)
+        return taken
+
     def run(self, count):
         """Runs the queue, in which this number of uploads is due."""
         taken, printed = self.line("run")
@@ -130,13 +143,15 @@ class Served(Lines):
     title = "archive, by HTTP"
     opens_each_time = False
     takes_lists = False
+    # The number of connections after which the server ends.
+    MOST = 1_000_000_000
 
     def __init__(self, program, folder):
         super().__init__(program, folder)
         self.ending = contextlib.ExitStack()
 
     def serve(self):
-        words = [self.program, "serve", "--db", self.db, "--at", "0", "127.0.0.1:{port}", "1000000"]
+        words = [self.program, "serve", "--db", self.db, "--at", "0", "127.0.0.1:{port}", str(self.MOST)]
         self.server = self.ending.enter_context(measure.Server(words))
 
     def make(self):
@@ -209,7 +224,7 @@ class Reprepro:
         self.base = pathlib.Path(folder, "reprepro")
 
     def line(self, *words):
-        return measure.line(["reprepro", "-b", str(self.base), *words])
+        return measure.line(["reprepro", "-s", "-b", str(self.base), *words])
 
     def make(self):
         for name in ("conf", "incoming", "tmp"):

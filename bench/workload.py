@@ -4,19 +4,20 @@
 
 ARCHIVE is the program, FOLDER a new folder to work in. The uploads are those of make_uploads: a .deb of some 560 bytes, its
 sidecar and its .changes. For each number of packages (--packages) all are handed in and run; handed in again, and run; then come
-one more that stands last in its index, one that stands first, an upgrade, a run with nothing due, and so many more (--each), each
+one more that stands last in its index, one that stands first, an upgrade, a run with nothing due, and some more (--each), each
 with a run of its own, whose packages stand all over the index. Of these each source is copied to a second suite by itself, and then
 all others at once. The archive is opened, and by command lines it gets another configuration, with an architecture more in each
-suite; then comes an upload whose .deb has nearly 4 MiB, and that file is looked up. Other
-archives take so many files of 4,096 bytes (--deliveries), or so many uploads of 4 MiB (--bodies), and are opened.
+suite; then comes an upload whose .deb has nearly 4 MiB, and that file is looked up. Another archive is filled for the first time
+with a run after each 500 uploads. Other archives take files of 4,096 bytes (--deliveries), or uploads of 4 MiB (--bodies), and are
+opened.
 
 It prints a table for each number and one for the others, and each cell on standard error as it comes. A table has a column for
 each way: by command lines, where each opens the database file; by reprepro; and with --http by `serve`, with a connection for
 each file. A cell has the processor time, of the user and of the system, the time that passes, and the most memory, of the program
-alone: of a line from its start to its end, of `serve` from before a request to behind its reply, its memory since it was started.
-Of several rounds the least is told. By command lines files are handed in and run by one list (`batch`), so that its parts are not
-told. What a delivery of 4,096 bytes takes is seen by `serve` alone. reprepro is handed files by `cp` to its folder, and does
-`processincoming`.
+alone: of a line from its start to its end, of `serve` from before a request to after its reply, its memory since it was started.
+In each round (--rounds) each way has a new folder, and a cell has the least of all rounds. By command lines files are handed in and
+run by one list (`batch`), so its parts have no cell. What a delivery of 4,096 bytes takes is seen by `serve` alone. reprepro is
+handed files by `cp` to its folder, whose cell says what `cp` takes on this machine, and does `processincoming`, with `-s`.
 """
 import os
 import shutil
@@ -24,6 +25,9 @@ import sys
 
 from bench import measure, ways
 from uploads import uploads
+
+# The number of uploads after which a long list has a run, so that few uploads wait at a time.
+BETWEEN_RUNS = 500
 
 
 def mean(parts):
@@ -81,6 +85,15 @@ def workload(way, made):
     yield "a request of what is not there, one of 100", mean([way.idle() for _ in range(100)])
 
 
+def first_fill(way, made):
+    """What it takes to fill a new archive, with a run after each 500 uploads."""
+    first = made["first"]
+    groups = [first[at:at + BETWEEN_RUNS] for at in range(0, len(first), BETWEEN_RUNS)]
+    way.make()
+    filled = way.fill(groups) if way.takes_lists else measure.total([together(way, [path for paths in it for path in paths], len(it)) for it in groups])
+    yield f"all handed in, with a run after each {BETWEEN_RUNS} uploads", filled
+
+
 def deliveries(way, files):
     """What one delivery of the last tenth takes, without an opening, and then an opening."""
     last = -(-len(files) // 10)
@@ -119,7 +132,8 @@ def task_of(work, made):
 def tables(line):
     """The title of each table, whether reprepro has a column in it, and what a way is put through, each in a new archive."""
     for count in line.packages:
-        yield f"{count:,} packages", True, [task_of(workload, packages_made(line, count))]
+        made = packages_made(line, count)
+        yield f"{count:,} packages", True, [task_of(workload, made), task_of(first_fill, made)]
     files = [uploads.write(f"{line.folder}/{count}-files", uploads.small(count)) for count in line.deliveries]
     large = [uploads.make(f"{line.folder}/{count}-bodies", count, pad=uploads.LARGE.pad) for count in line.bodies]
     yield "Files and bodies", False, [task_of(deliveries, it) for it in files] + [task_of(bodies, it) for it in large]
