@@ -21,7 +21,7 @@ COMMANDS = [
     "What an upload is", "Uploading", "Installing from it", "A tree for any web server", "Copying a whole suite", "Testing and stable",
     "Taking a package out", "How long files count", "How large a file may be", "Moments",
 ]
-SERVICE = ["Serving", "A tree beside the server"]
+SERVICE = ["Serving", "Stopping the service", "A tree beside the server"]
 CONFIGURATION = ["What a configuration says", "Until when a Release is valid", "How long files count", "How large a file may be", "Testing and stable"]
 # What is said of a fault's letter, in archive.conf(5) and in archive(1).
 FAULTS_OF_CONFIGURATIONS = "Configurations: F"

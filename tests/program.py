@@ -22,8 +22,8 @@ PROGRAM = os.environ.get("ARCHIVE", f"{ROOT}/crates/archive/out/archive")
 DATA = f"{ROOT}/crates/archive/data"
 NAMES = ["hello_1.0-1_amd64.changes", "hello_1.0-1_amd64.deb", "hello_1.0-1_amd64.control"]
 
-# How long a test waits for what should come at once, and for what may take its time, in seconds.
-SOON, LONG = 10, 150
+# How long a test waits for what should come at once, and for what may take its time, in seconds: a slow machine may stall for some of them.
+SOON, LONG = 60, 150
 
 # Whoever is started by a shell in the background ignores SIGINT, and so do its children, unless this is said.
 signal.signal(signal.SIGINT, signal.default_int_handler)
@@ -54,7 +54,7 @@ class Lines(unittest.TestCase):
 
     def line(self, status, word, db, *words):
         """Runs a line of the program, and answers what it prints, on both outputs."""
-        ran = subprocess.run([PROGRAM, word, "--db", db, *words], capture_output=True, text=True, check=False, timeout=120)
+        ran = subprocess.run([PROGRAM, word, "--db", db, *words], capture_output=True, text=True, check=False, timeout=LONG)
         self.assertEqual(ran.returncode, status, ran.stderr)
         return ran.stdout + ran.stderr
 
@@ -188,8 +188,8 @@ def unread(client):
 
 
 def wait_until_read(client):
-    """Waits until the server has read what a client sent, but no longer than what should come at once may take."""
-    end = time.monotonic() + SOON
+    """Waits until the server has read what a client sent, but not for long."""
+    end = time.monotonic() + 10
     while unread(client) and time.monotonic() < end:
         time.sleep(0.01)
 
@@ -207,6 +207,17 @@ def status_of(reply):
 
 def seconds_since(start):
     return time.monotonic() - start
+
+
+def fewest_seconds(measured, most):
+    """The fewest seconds that something takes of three times. Once they are below the most, it is not measured again. A machine that stalls may take
+    more at times; what waits for too long does so each time."""
+    fewest = measured()
+    for _ in range(2):
+        if fewest < most:
+            break
+        fewest = min(fewest, measured())
+    return fewest
 
 
 # ---- requests and replies

@@ -1,10 +1,12 @@
 """All tests of this repository, as `make test` and CI run them.
 
-First come those that take seconds: whether the pages and the wrong bodies fit the sources, the words of comments, and the tests of the
-tools. Then comes the gate, rt ci, and after it the tests of the program that it built, two at a time if there are four processors. Each is run,
-even if one before it failed. At the end lines say once more how long the gate took, what it took of the processors and at which minute each crate was proved, and what failed,
-so that a log that lost its middle has them. Each test that was skipped has a line, below what there is not on this machine, and then comes a line that counts them. The last line is 'N passed,
-M failed': what the gate counts, and one more for each of the others. The status is 0 if none failed."""
+First come those that take seconds: whether the pages and the wrong bodies fit the sources, the words of comments, and the tests of the tools.
+Then comes the gate, rt ci, and after it the tests of the program that it built, two at a time if there are four processors. Each is run, even if
+one before it failed. At the end each test that was skipped has a line, below what there is not on this machine. Lines after that say once more
+how long the gate took, what it took of the processors and at which minute each crate was proved, and what failed, so that a log that has only
+its last lines has them. Below a tool that failed are its tests that failed, each with its exception, or else the last lines that the tool
+printed. Then comes a line that counts the tests that were skipped. The last line is 'N passed, M failed': what the gate counts, and one more for
+each of the others. The status is 0 if none failed."""
 import concurrent.futures
 import os
 import re
@@ -70,6 +72,7 @@ BEHIND = [
     "tests.test_failing",
     "tests.test_hostile",
     "tests.test_soak",
+    "tests.test_readme",
     "tests.test_using_program",
     "tests.test_using_proxy",
     "tests.test_using_tree",
@@ -95,32 +98,88 @@ COUNTS = re.compile(r"(\d+) passed, (\d+) failed$")
 OF_FAULTS = re.compile(r"rt: (FAILED: .*|.* NOT PROVED|.*: NOT (REFUSED|TRIED).*|.*: the program (ended|was stopped|had not ended) .*|.*: what the program wrote, .*|.*: its tests FAILED)$")
 # The line of the gate that says that a crate is proved.
 PROVED = re.compile(r"rt: (\w+) proved$")
+# What unittest prints of a test that failed: a line of =, one with the name of the test, a line of -, and the traceback.
+EQUALS, DASHES = "=" * 70, "-" * 70
+OF_TEST = "FAIL: ", "ERROR: "
+# How many lines at the end may say what failed in a tool. If several tools failed, they share them, but each has the least number.
+MOST_LINES, LEAST_LINES = 12, 3
+# How many lines are printed once more of a tool that failed and has no tests, and how many characters of a line at the end.
+LAST_LINES, LONGEST = 5, 300
 # How many additions a machine's speed is measured by.
 ADDITIONS = 5_000_000
 # The first kit that proves crates by name, and keeps that.
 KEEPING_KIT = 13, "f"
 
 
-def ran_with(line, **files):
-    """Runs a tool, which is named by its path or as a module of tests, with these files as its output. Answers how it ended."""
+def ran(line, is_shown=True):
+    """Runs a tool, which is named by its path or as a module of tests. Answers its status, and what it printed on both outputs. If that is to be
+    shown, each line is printed as it comes."""
     name, *words = line.split()
-    module = ["-m"] if name.startswith("tests.") else []
-    return subprocess.run([sys.executable, *module, name, *words], cwd=ROOT, check=False, **files)
+    module, printed = ["-m"] if name.startswith("tests.") else [], []
+    words = [sys.executable, *module, name, *words]
+    with subprocess.Popen(words, cwd=ROOT, stdout=subprocess.PIPE, stderr=subprocess.STDOUT) as process:
+        for it in process.stdout:
+            printed.append(it.decode(errors="replace"))
+            if is_shown:
+                print(printed[-1], end="", flush=True)
+    return process.returncode, "".join(printed)
 
 
-def is_passed(line):
-    """Runs a tool, whose output is printed while it runs, and answers whether it ended well."""
-    print(f"== {line}", flush=True)
-    return ran_with(line).returncode == 0
-
-
-def are_passed(lines, together):
-    """Runs tools, as many at a time. What each printed stands together, in the order of the lines. Answers of each whether it ended well."""
+def each_ran(lines, together):
+    """Runs tools, as many at a time, and answers of each its status and what it printed. That stands together, in the order of the lines, and is
+    printed as it comes if they run one at a time."""
+    if together == 1:
+        for line in lines:
+            print(f"== {line}", flush=True)
+            yield ran(line)
+        return
     with concurrent.futures.ThreadPoolExecutor(together) as pool:
-        runs = pool.map(lambda line: ran_with(line, stdout=subprocess.PIPE, stderr=subprocess.STDOUT), lines)
-        for line, ran in zip(lines, runs):
-            print(f"== {line}", ran.stdout.decode(errors="replace"), sep="\n", end="", flush=True)
-            yield ran.returncode == 0
+        runs = pool.map(lambda line: ran(line, is_shown=False), lines)
+        for line, (status, printed) in zip(lines, runs):
+            print(f"== {line}", printed, sep="\n", end="", flush=True)
+            yield status, printed
+
+
+# ---- what failed in a tool
+
+
+def cut(line):
+    """A line, or the beginning and the end of a long one."""
+    return line if len(line) <= LONGEST else f"{line[:LONGEST - 100]}..{line[-98:]}"
+
+
+def faults_of_test(said):
+    """Lines on a test that failed, by what unittest says of it: its name, with the number of its line that failed, and the exception. If that has
+    several lines, they are the first one, what came in place of an element that was wanted, the last one of a difference that came, and the last one."""
+    head, _, traceback = said.partition(DASHES)
+    numbers = re.findall(r'^  File ".*", line (\d+), in test_', traceback, re.M)
+    name = ", line ".join([head.partition("\n")[0], *numbers[-1:]])
+    # Between the head of a traceback and the exception all lines are indented. A line with the marks of a difference says nothing by itself.
+    rest = traceback.rpartition("Traceback (most recent call last):\n")[2].split("\n")
+    lines = [it for it in rest if it.strip() and not it.startswith((" ", "?", "Diff is "))]
+    came = [came for it, came in zip(lines, lines[1:]) if it.startswith("First differing element ")]
+    came += [it for it in lines if it.startswith("- ")][-1:]
+    return [name, *(f"    {it}" for it in dict.fromkeys([*lines[:1], *came, *lines[-1:]]))]
+
+
+def faults_of(status, printed):
+    """Lines on what failed in a tool that ended with this status and printed this: its tests that failed, or else its last lines."""
+    tests = [it.partition(f"{DASHES}\nRan ")[0] for it in printed.split(f"{EQUALS}\n") if it.startswith(OF_TEST)]
+    faults = [line for it in tests for line in faults_of_test(it)] or [it for it in printed.split("\n") if it.strip()][-LAST_LINES:]
+    return [*([f"ended by signal {-status}"] if status < 0 else []), *map(cut, faults)]
+
+
+def told_of_failed(failed):
+    """Lines on the tools that failed: on each its own, and as many as may be of those that say what failed in it."""
+    most = max(LEAST_LINES, MOST_LINES // max(1, len(failed)))
+    for line, faults in failed:
+        yield f"Failed: {line}"
+        yield from (f"    {it}" for it in faults[:most])
+        if len(faults) > most:
+            yield f"    and {len(faults) - most} more"
+
+
+# ---- the gate
 
 
 def free_memory():
@@ -229,18 +288,18 @@ def run_all(*parts):
             well, ill, *lines = part()
             passed, failed = passed + well, failed + ill
             again += lines
-        print(*again, *told_of_skipped(skipped), sep="\n")
+        *names, count = told_of_skipped(skipped)
+        print(*names, *again, count, sep="\n")
     print(f"{passed} passed, {failed} failed")
     return 1 if failed else 0
 
 
 def each_of(lines, together=1):
-    """A part that runs each of these tools, as many at a time."""
+    """A part that runs each of these tools, as many at a time. Its lines are on those that failed."""
 
     def run():
-        ends = are_passed(lines, together) if together > 1 else map(is_passed, lines)
-        failed = [line for line, is_well in zip(lines, ends) if not is_well]
-        return len(lines) - len(failed), len(failed), *(f"Failed: {it}" for it in failed)
+        failed = [(line, faults_of(*ended)) for line, ended in zip(lines, each_ran(lines, together)) if ended[0]]
+        return len(lines) - len(failed), len(failed), *told_of_failed(failed)
 
     return run
 
@@ -250,4 +309,5 @@ def main():
 
 
 if __name__ == "__main__":
+    sys.stdout.reconfigure(errors="backslashreplace")  # what a tool prints may have characters that this output can't have
     sys.exit(main())

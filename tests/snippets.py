@@ -40,6 +40,7 @@ PIECES = {
     "why by HTTP": "curl -sS http://archive.example.org:8080/why/",
     "questions": "curl -sS http://127.0.0.1:8080/why/",
     "where it is": "archive list --db box.db | grep",
+    "what differs": "comm -3",
     "check": "passed over Uploader in box",
     "json": '{"missing":1,',
     "waits": "waits hello_1.0-1_amd64.changes ",
@@ -80,6 +81,7 @@ PIECES = {
     "queue.service": "Description=One run of the queue of box\n",
     "queue.timer": "Description=Runs the queue of box each minute\n",
     "batch": "echo run; echo waiting;",
+    "stop": "runuser -u archive -- sh\n",
     "another configuration": "/^Architectures: amd64/& arm64/'",
     "one uploader more": "copy=$(runuser",
     "another name": "> both.conf",
@@ -122,6 +124,7 @@ PIECES = {
     "look": 'archive verdicts --db "$copy"',
     "pack": "sqlite3 box.db VACUUM\n",
     "notes": "CREATE TABLE notes",
+    "upgrade": "apt install ./boqitsel_VERSION",
     "migrate": "archive migrate --from old.db",
     "bring over": "sqlite3 old.db .dump",
     "indexes": "arrivals_by_body ON arrivals (body)",
@@ -231,7 +234,7 @@ class Room:
         path.chmod(mode)
         return str(path)
 
-    def run(self, text, cwd=None, within=120):
+    def run(self, text, cwd=None, within=600):
         """Runs a text by a shell that ends at the first failure, within so many seconds. Answers the status, and what was printed on both outputs."""
         words = {"cwd": cwd or self.work, "env": self.variables, "stdin": subprocess.DEVNULL, "timeout": within}
         ran = subprocess.run(["sh", "-ec", text], capture_output=True, text=True, errors="backslashreplace", check=False, **words)
@@ -248,7 +251,7 @@ class Room:
             streams = {"stdin": subprocess.DEVNULL, "stdout": out, "stderr": subprocess.STDOUT}
             process = subprocess.Popen(words, cwd=self.work, env=self.variables, start_new_session=True, **streams)
         self.ending.callback(self.end, process)
-        end = time.monotonic() + 20
+        end = time.monotonic() + 120
         while port and not is_open(port):
             if process.poll() is not None or time.monotonic() > end:
                 raise RuntimeError(f"nothing listens at {port}: {words}: {self.read('told')}")
@@ -264,7 +267,7 @@ class Room:
             os.execvpe("sh", ["sh", "-ec", text], self.variables)
         printed, asked = b"", 0
         with contextlib.suppress(OSError):  # which is how a terminal ends
-            while select.select([terminal], [], [], 60)[0] and (part := os.read(terminal, 1 << 16)):
+            while select.select([terminal], [], [], 300)[0] and (part := os.read(terminal, 1 << 16)):
                 printed += part
                 if len(re.findall(rb"(?i)pass(?:word|phrase)[^:\n]*: ?", printed)) > asked:
                     wait_for_no_echo(terminal)
@@ -288,7 +291,7 @@ class Room:
         if not os.path.exists(paths[0]):
             words = ["openssl", "req", "-x509", "-newkey", "rsa:2048", "-nodes", "-days", "2", "-out", paths[0], "-keyout", paths[1]]
             words += ["-subj", "/CN=localhost", "-addext", "subjectAltName=DNS:localhost"]
-            subprocess.run(words, check=True, capture_output=True, timeout=60)
+            subprocess.run(words, check=True, capture_output=True, timeout=300)
         return paths
 
     def nginx(self, text, port, changes):
@@ -322,8 +325,8 @@ class Room:
 
     def browsed(self, url):
         """What chromium makes of a page."""
-        words = [*self.browser(), "--timeout=20000", "--virtual-time-budget=3000", "--dump-dom", url]
-        return subprocess.run(words, capture_output=True, text=True, check=True, timeout=120).stdout
+        words = [*self.browser(), "--timeout=100000", "--virtual-time-budget=3000", "--dump-dom", url]
+        return subprocess.run(words, capture_output=True, text=True, check=True, timeout=300).stdout
 
     def framed(self, url, paths, log):
         """Has chromium look at each of these paths of a server, in a frame of a page of another's. Answers what the server writes to its log
@@ -334,7 +337,7 @@ class Room:
         with open(log, encoding="utf-8") as it:
             it.seek(0, os.SEEK_END)
             process, written = self.start([*self.browser(), "--remote-debugging-port=0", f"file://{page}"]), ""
-            end = time.monotonic() + 120
+            end = time.monotonic() + 300
             while '"GET /done ' not in written and time.monotonic() < end:
                 time.sleep(0.1)
                 written += it.read()
@@ -358,7 +361,7 @@ class Room:
 
 def wait_for_no_echo(terminal):
     """Waits until what is typed at a terminal is not shown, but not for long: some programs throw away what was typed before that."""
-    end = time.monotonic() + 5
+    end = time.monotonic() + 60
     while termios.tcgetattr(terminal)[3] & termios.ECHO and time.monotonic() < end:
         time.sleep(0.01)
 

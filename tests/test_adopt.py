@@ -11,7 +11,6 @@ import os
 import pathlib
 import pty
 import re
-import resource
 import shutil
 import subprocess
 import sys
@@ -26,7 +25,7 @@ from tests.ports import free_address, free_port
 from tests.program import PROGRAM, ROOT, Serving
 from tests.snippets import snippet
 from tests.test_progress import lines_of, rest_of, rows_of
-from tests.test_upload import Archive, Server
+from tests.test_upload import TOO_LARGE, Archive, Server
 from tests.tools import tool
 from tests.wants import main, missing, needs, path_of
 
@@ -848,7 +847,7 @@ class Adopting(unittest.TestCase):
             self.room.deb(f"p{number}", file=f"old/p{number}.deb")
         line = [sys.executable, TOOL, "make", old, self.folder / "ready", "--suite", "box"]
         with subprocess.Popen(line, stdout=subprocess.PIPE, stderr=subprocess.PIPE) as process:
-            while not any((self.folder / "ready").glob("p*")):
+            while process.poll() is None and not any((self.folder / "ready").glob("p*")):
                 time.sleep(0.01)
             process.kill()
         list_, _ = self.made(old, "--suite", "box", status=0)
@@ -1039,11 +1038,10 @@ class Adopting(unittest.TestCase):
         (old / "pool").mkdir(parents=True)
         deb = self.room.padded("big", size, "old/pool")
         self.indexed(old, deb, "big")
-        limit = lambda: resource.setrlimit(resource.RLIMIT_DATA, (80 * MEBIBYTE, 80 * MEBIBYTE))
-        ready = self.folder / "ready"
+        ready, limited = self.folder / "ready", ["sh", "-c", 'ulimit -d 81920 && exec "$@"', "sh"]
         with served(old, asked) as url:
             for place in (old, url):
-                ran = run(sys.executable, TOOL, "make", place, ready, "--suite", "box", "--most", "96", preexec_fn=limit)
+                ran = run(*limited, sys.executable, TOOL, "make", place, ready, "--suite", "box", "--most", "96")
                 self.assertEqual(ran.stderr, "adopt: 1 uploads, and 0 packages that can't come\n")
                 self.assertEqual(run("cmp", deb, ready / "big_1.0-1_box/big_1.0-1_amd64.deb").stdout, "")
                 self.assertEqual([it.name for it in ready.iterdir()], ["big_1.0-1_box"])
@@ -1165,7 +1163,7 @@ class Adopting(unittest.TestCase):
             self.assertEqual(self.inside("send", list_, url, "--most", "6"), (0, f"again {path.name}\n", ""))
             for status, text, line, reason in (
                 (
-                    413, "413 Payload Too Large\n", "413 Request Entity Too Large",
+                    413, "413 Payload Too Large\n", f"413 {TOO_LARGE}",
                     "The file is larger than the archive takes, 4 MiB or what MaxFileSize says in its configuration, or than the proxy takes."),
                 (422, "Q2\n", "Q2", "The file is larger than the archive takes: 4 MiB, or what MaxFileSize says in its configuration."),
             ):

@@ -14,7 +14,7 @@ import tempfile
 import unittest
 
 from tests import older
-from tests.program import DATA, NAMES, PROGRAM, ROOT, Lines
+from tests.program import DATA, LONG, NAMES, PROGRAM, ROOT, Lines
 from tests.snippets import snippet
 from tests.test_lines import ended
 from tests.wants import main, needs, needs_strict_tables
@@ -175,7 +175,7 @@ class Upgrading(Lines):
 
     def shell(self, folder, text):
         """Runs a text by a shell in a folder, which ends well and says nothing."""
-        ran = subprocess.run(["sh", "-ec", text], cwd=folder, capture_output=True, text=True, check=False, timeout=60)
+        ran = subprocess.run(["sh", "-ec", text], cwd=folder, capture_output=True, text=True, check=False, timeout=LONG)
         self.assertEqual((ran.returncode, ran.stdout, ran.stderr), (0, "", ""))
 
     @needs("sqlite3")
@@ -184,7 +184,7 @@ class Upgrading(Lines):
             older.archive().make(1, f"{folder}/old.db")
             os.symlink(os.path.abspath(PROGRAM), f"{folder}/archive")
             text = f"PATH={folder}:$PATH\n" + snippet("migrate")
-            ran = subprocess.run(["sh", "-ec", text], cwd=folder, capture_output=True, text=True, check=False, timeout=60)
+            ran = subprocess.run(["sh", "-ec", text], cwd=folder, capture_output=True, text=True, check=False, timeout=LONG)
             self.assertEqual((ran.returncode, ran.stdout, ran.stderr), (0, f"accepted {NAMES[0]}\n", ""))
             for path, text in older.archive().suites[0].texts().items():
                 self.assertEqual(self.line(0, "show", f"{folder}/box.db", path), text.decode())

@@ -27,8 +27,8 @@ from tests.wants import main, needs_file, needs_root
 
 TOOL = f"{ROOT}/bin/backup"
 BACKUP = tool("bin/backup")
-# The number of backups of a server that are killed, and the number of seconds for them.
-KILLS, KILLING = 200, 60
+# The number of backups of a server that are killed, the number of seconds for them, and the least number of them, for which there is more time.
+KILLS, KILLING, LEAST = 200, 60, 10
 NOBODY = 65534
 STAMP = r"\d{8}T\d{6}Z(-\d+)?"
 
@@ -424,7 +424,7 @@ class Holds(Case):
 
     def test_it_is_stopped_itself(self):
         with Holder(self.db) as holder:
-            process = self.stopped_backup(holder, "--hold", 1)
+            process = self.started_and_stopped("--hold", 1)
             self.assertTrue(wait_until(lambda: holder.state() != "T"))
             process.send_signal(signal.SIGCONT)
             self.assertEqual(process.communicate(timeout=SOON)[1], told(f"{self.db} was not copied within 1 seconds: give more by --hold"))
@@ -496,7 +496,7 @@ class Holds(Case):
             with self.waited_for(NOBODY, start_new_session=is_alone) as (holder, numbers):
                 first, is_left = numbers[0], False
                 line = f"process {first}, which began what has {self.db}, stopped itself, and this user may not let it go on: kill -CONT {first} as root"
-                for _ in range(20 if is_alone else 3):
+                for _ in range(100 if is_alone else 3):
                     status, said, _ = self.by_nobody()
                     is_left = state_of(first) == "T"
                     self.assertEqual((status, said), (0, told(line) if is_left else ""))
@@ -737,11 +737,14 @@ class Kills(Case):
     """Backups that are killed at random moments."""
 
     def test_the_stand_in_goes_on_after_each(self):
+        """There are thirty, and more if few of them were seen to hold it, as may be on a slow machine."""
+        number = 0
         with Holder(self.db) as holder:
             killer = Killer(holder.state, lambda: self.started("box.db", "copies"))
-            for number in range(30):
+            while number < 30 or (killer.held <= 5 and number < 300):
                 before = holder.number()
                 printed = killer.once(number)
+                number += 1
                 self.assertTrue(wait_until(lambda: holder.state() != "T"))
                 after = holder.number()
                 if printed:
@@ -750,7 +753,7 @@ class Kills(Case):
             numbers = [int((it / f"box.db{end}").read_bytes()) for end in ("", "-wal")]
             self.assertIn(numbers[0] - numbers[1], (0, 1))
         self.assertGreater(killer.held, 5)
-        print(f"Of 30 backups of the stand-in {killer.killed} were killed, {killer.held} of them while it was held.")
+        print(f"Of {number} backups of the stand-in {killer.killed} were killed, {killer.held} of them while it was held.")
 
 
 # How many seconds pass between two files of a client, so that the archive does not grow by as much as the machine can take.
@@ -844,7 +847,7 @@ class Served(Lines):
         with Serving(self.db, 1_000_000) as serving, Putting(serving) as client:
             killer = Killer(lambda: state_of(serving.process.pid), self.started)
             self.assertTrue(wait_until(lambda: client.answered))
-            while killer.killed < KILLS and time.monotonic() < end:
+            while killer.killed < KILLS and (time.monotonic() < end or killer.killed <= LEAST):
                 before, there = client.answered, set(os.listdir(self.copies))
                 printed = killer.once(number)
                 number += 1
@@ -861,7 +864,7 @@ class Served(Lines):
             self.assertEqual([self.has(copy, before - 1), self.has(copy, after)], [True, False], copy)
         names = [pathlib.Path(it).parent.name for it, _, _ in finished]
         self.assertEqual(set(os.listdir(self.copies)) - {BACKUP.ROOM}, set(names))
-        self.assertGreater(killer.killed, 10)
+        self.assertGreater(killer.killed, LEAST)
         print(f"Of {number} backups {killer.killed} were killed, {killer.held} of them while the server was held.")
         print(f"It answered {client.answered} files, each within {client.longest:.2f} seconds.")
 

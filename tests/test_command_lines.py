@@ -7,7 +7,7 @@ import sqlite3
 import subprocess
 import tempfile
 
-from tests.program import DATA, NAMES, PROGRAM, ROOT, Lines
+from tests.program import DATA, LONG, NAMES, PROGRAM, ROOT, Lines
 from tests.wants import main
 
 # A configuration, which lies outside of the folders of the tests.
@@ -83,7 +83,7 @@ class Words(Lines):
 
     def ran(self, *words):
         """Runs a line in the folder. Answers the exit status, and what is printed on both outputs."""
-        ran = subprocess.run([PROGRAM, *words], cwd=self.folder, capture_output=True, check=False, timeout=60)
+        ran = subprocess.run([PROGRAM, *words], cwd=self.folder, capture_output=True, check=False, timeout=LONG)
         return ran.returncode, ran.stdout.decode(), ran.stderr.decode()
 
 
@@ -154,7 +154,7 @@ class Itself(Lines):
     def refused(self, path, db="box.db", before=()):
         """A `put` in the folder whose last path is not read, after some that are."""
         words = ["put", "--db", db, "--at", "0", *before, path]
-        ran = subprocess.run([PROGRAM, *words], cwd=self.folder, capture_output=True, text=True, check=False, timeout=60)
+        ran = subprocess.run([PROGRAM, *words], cwd=self.folder, capture_output=True, text=True, check=False, timeout=LONG)
         new = "".join(f"new {os.path.basename(it)}\n" for it in before)
         self.assertEqual((ran.returncode, ran.stdout, ran.stderr), (1, new, f"archive: cannot read {path}\n"))
 

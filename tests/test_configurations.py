@@ -13,7 +13,7 @@ import subprocess
 import tempfile
 import time
 
-from tests.program import DATA, NAMES, PACKAGES, PROGRAM, Lines, Serving, get, put, put_of, replied
+from tests.program import DATA, LONG, NAMES, PACKAGES, PROGRAM, Lines, Serving, get, put, put_of, replied
 from tests.wants import main, needs, needs_strict_tables
 from uploads import uploads
 
@@ -228,7 +228,7 @@ class Kills(Configurations):
         """The calls of a command that is not killed, each as its name and how many of this name there are up to it."""
         trace, seen = f"{self.folder}/trace", dict.fromkeys(CALLS, 0)
         db = self.copied()
-        subprocess.run(["strace", "-f", "-qq", "-o", trace, "-e", f"trace={','.join(CALLS)}", *self.words(db)], check=True, timeout=60)
+        subprocess.run(["strace", "-f", "-qq", "-o", trace, "-e", f"trace={','.join(CALLS)}", *self.words(db)], check=True, timeout=LONG)
         with open(trace, encoding="utf-8") as it:
             for name in re.findall(r"(?m)^(?:\d+ +)?(\w+)\(", it.read()):
                 seen[name] += 1
@@ -241,7 +241,7 @@ class Kills(Configurations):
             with self.subTest(call=name, number=number):
                 db = self.copied()
                 inject = ["-e", f"trace={name}", "-e", f"inject={name}:signal=SIGKILL:when={number}"]
-                subprocess.run(["strace", "-f", "-qq", "-o", os.devnull, *inject, *self.words(db)], check=False, timeout=60)
+                subprocess.run(["strace", "-f", "-qq", "-o", os.devnull, *inject, *self.words(db)], check=False, timeout=LONG)
                 done.append(self.left(db))
         self.assertIn(False, done)
         print(f"{len(done)} calls of `configure` were killed one by one; behind {sum(done)} it had been done.")
@@ -249,7 +249,7 @@ class Kills(Configurations):
     def test_at_times(self):
         db = self.copied()
         start = time.monotonic()
-        subprocess.run(self.words(db), check=True, timeout=60)
+        subprocess.run(self.words(db), check=True, timeout=LONG)
         whole, done = time.monotonic() - start, []
         for part in range(KILLS):
             db = self.copied()
@@ -274,7 +274,7 @@ class Paths(Lines):
         yield "migrate", "--from", db, "--db", new, "--at", "0", conf
 
     def ran(self, *words, **more):
-        ran = subprocess.run([PROGRAM, *words], capture_output=True, check=False, timeout=10, **more)
+        ran = subprocess.run([PROGRAM, *words], capture_output=True, check=False, timeout=LONG, **more)
         return ran.returncode, ran.stdout.decode(), ran.stderr.decode()
 
     def test_what_a_read_may_wait_for_is_refused_at_once(self):
@@ -304,7 +304,7 @@ class Paths(Lines):
 
     @needs("bash")
     def test_what_a_shell_hands_over_is_read(self):
-        ran = subprocess.run(["bash", "-c", f"{PROGRAM} check <(printf '%s' \"$1\")", "bash", BOX], capture_output=True, check=False, timeout=10)
+        ran = subprocess.run(["bash", "-c", f"{PROGRAM} check <(printf '%s' \"$1\")", "bash", BOX], capture_output=True, check=False, timeout=LONG)
         self.assertEqual((ran.returncode, ran.stderr), (0, b""))
         self.assertTrue(ran.stdout.startswith(b"suite box\n"), ran.stdout)
 

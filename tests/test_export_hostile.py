@@ -18,7 +18,7 @@ from tests.test_export import TWO, UNWRITTEN, Exports, contents, pool_path, read
 from tests.wants import main, needs
 
 # How long an export may take among such files, in seconds. A program that waits for a fifo or a lock takes longer.
-LIMIT = 30
+LIMIT = 120
 
 OWN = (".boqitsel",)
 DEB = pool_path("hello", "1.0-1")

@@ -9,7 +9,7 @@ import shutil
 import sqlite3
 import tempfile
 
-from tests.program import NAMES, Lines, Serving, get, mounted, put, put_of, replied, status_of
+from tests.program import LONG, NAMES, Lines, Serving, get, mounted, put, put_of, replied, status_of
 from tests.wants import main, needs
 
 NEW = replied("201 Created", b"new\n")
@@ -136,7 +136,7 @@ class FailingCalls(Lines):
         with Serving(db, len(SESSION), under=under(self.trace, names)) as serving:
             for request, reply, _ in SESSION:
                 self.assertEqual(serving.answer(request), reply)
-            self.assertEqual(serving.ended(30), (0, "", ""))
+            self.assertEqual(serving.ended(LONG), (0, "", ""))
         with open(self.trace, encoding="utf-8") as it:
             return re.findall(r"(?m)^(?:\d+ +)?(\w+)\(", it.read().replace("accept4(", "accept("))
 
@@ -182,7 +182,7 @@ class FailingCalls(Lines):
             sent = sum(self.answered(serving, *it) for it in SESSION)
             for _ in range(len(SESSION) + MORE - sent):
                 self.assertEqual(serving.answer(get("verdicts")), ACCEPTED)
-            self.assertEqual(serving.ended(30), (0, "", ""))
+            self.assertEqual(serving.ended(LONG), (0, "", ""))
         self.assertEqual(self.line(0, "verdicts", db), f"accepted {NAMES[0]}\n")
         self.assertEqual(self.line(0, "show", db, DEB), "abc")
         return sent - len(SESSION)
@@ -208,7 +208,7 @@ class FailingSyncs(FailingCalls):
                 if os.path.exists(f"{db}{end}"):
                     os.rename(f"{db}{end}", f"{db}.away{end}")
             self.assertEqual(serving.answer(put(NAMES[1])), FULL)
-            status, printed, told = serving.ended(30)
+            status, printed, told = serving.ended(LONG)
         self.assertEqual((status, printed), (3, ""))
         self.assertRegex(told, r"\Aarchive: K[124]\n\Z")
         self.assertFalse(os.path.exists(db))
@@ -228,7 +228,7 @@ class FailingSyncs(FailingCalls):
             # It may end, and then nothing listens; a client that it had not accepted yet is reset.
             with contextlib.suppress(ConnectionError):
                 statuses += (status_of(serving.answer(put(NAMES[1]))) for _ in range(3))
-            status, printed, told = serving.ended(30)
+            status, printed, told = serving.ended(LONG)
         self.assertEqual(statuses[0], 507)
         self.assertTrue(set(statuses) <= {507, 200, None}, statuses)
         self.assertIn((status, printed), ((0, ""), (3, "")))

@@ -6,7 +6,7 @@ import subprocess
 import tempfile
 import unittest
 
-from tests.program import DATA, MOMENT, NAMES, Lines, Serving, get, put_of, replied
+from tests.program import DATA, LONG, MOMENT, NAMES, Lines, Serving, get, put_of, replied
 from tests.snippets import snippet
 from tests.wants import main, needs
 
@@ -167,7 +167,7 @@ class Figures(Lines):
         with Serving(self.accepted(), 1) as serving:
             text = serving.answer(get("metrics")).split(b"\r\n\r\n", 1)[1]
             self.assertEqual(serving.ended(), (0, "", ""))
-        ran = subprocess.run(["promtool", "check", "metrics"], input=text, capture_output=True, check=False, timeout=60)
+        ran = subprocess.run(["promtool", "check", "metrics"], input=text, capture_output=True, check=False, timeout=LONG)
         self.assertEqual((ran.returncode, ran.stdout, ran.stderr), (0, b"", b""))
 
 
@@ -218,7 +218,7 @@ class Pages(unittest.TestCase):
 
     def ran(self, *words):
         """Runs promtool, which has to succeed."""
-        ran = subprocess.run(["promtool", *words], cwd=self.room, capture_output=True, text=True, check=False, timeout=60)
+        ran = subprocess.run(["promtool", *words], cwd=self.room, capture_output=True, text=True, check=False, timeout=LONG)
         self.assertEqual(ran.returncode, 0, ran.stdout + ran.stderr)
 
     def test_prometheus_takes_the_configuration_and_the_rules(self):

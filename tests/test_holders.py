@@ -4,7 +4,7 @@ import os
 import subprocess
 import time
 
-from tests.program import DATA, NAMES, PROGRAM, Lines, Serving, get, rest, seconds_since
+from tests.program import DATA, LONG, NAMES, PROGRAM, Lines, Serving, fewest_seconds, get, rest, seconds_since
 from tests.wants import main
 
 # The words of each command after `--db FILE`, and its answer if nobody has the file: status, and both outputs.
@@ -37,26 +37,28 @@ def begun(db, command):
 
 class Holders(Lines):
     @contextlib.contextmanager
-    def all_begun(self, db):
-        """All commands, begun at once while another process has the file."""
+    def all_begun(self, db, commands=COMMANDS):
+        """All commands, or some, begun at once while another process has the file."""
         with contextlib.ExitStack() as stack:
-            yield {command: stack.enter_context(begun(db, command)) for command in COMMANDS}
+            yield {command: stack.enter_context(begun(db, command)) for command in commands}
 
     def results(self, processes):
         """The end of each command, by its name: status, and both outputs."""
-        printed = {command: it.communicate(timeout=60) for command, it in processes.items()}
+        printed = {command: it.communicate(timeout=LONG) for command, it in processes.items()}
         return {command: (processes[command].returncode, *texts) for command, texts in printed.items()}
 
     def test_each_command_waits_for_a_file_that_is_let_go(self):
+        """A third of them at a time, since each waits for ten seconds at most, for those that come before it, too."""
         db = self.accepted()
-        with Serving(db, 2) as holder:
-            holder.answer(b"")
-            with holder.connected() as held, self.all_begun(db) as processes:
-                time.sleep(3)
-                self.assertEqual([command for command, it in processes.items() if it.poll() is not None], [])
-                held.close()
-                self.assertEqual(holder.ended(), (0, "", ""))
-                self.assertEqual(self.results(processes), {command: result for command, (_, result) in COMMANDS.items()})
+        for commands in (list(COMMANDS)[number::3] for number in range(3)):
+            with Serving(db, 2) as holder:
+                holder.answer(b"")
+                with self.kept(holder) as held, self.all_begun(db, commands) as processes:
+                    time.sleep(2)
+                    self.assertEqual([command for command, it in processes.items() if it.poll() is not None], [])
+                    held.close()
+                    self.assertEqual(holder.ended(), (0, "", ""))
+                    self.assertEqual(self.results(processes), {command: COMMANDS[command][1] for command in commands})
 
     def test_each_command_gives_up_where_it_is_not(self):
         db = self.accepted()
@@ -64,25 +66,29 @@ class Holders(Lines):
             holder.answer(b"")
             start = time.monotonic()
             with self.all_begun(db) as processes, Serving(db, 1) as serving, self.kept(holder):
-                self.assertEqual(serving.ended(20), (3, "", "archive: K2\n"))
+                self.assertEqual(serving.ended(), (3, "", "archive: K2\n"))
                 self.assertEqual(self.results(processes), dict.fromkeys(COMMANDS, (3, "", "archive: K2\n")))
                 waited = seconds_since(start)
         self.assertGreaterEqual(waited, 9.5)
-        self.assertLess(waited, 14)
+        # After 30 seconds the server lets the file go.
+        self.assertLess(waited, 25)
 
     @contextlib.contextmanager
     def kept(self, holder):
-        """Keeps a server busy with its last connection, whose client sends a byte and no more."""
+        """Keeps a server busy with its last connection, whose client sends a byte and no more. It is kept for 30 seconds."""
         with holder.connected() as client:
             client.sendall(b"G")
-            yield
+            yield client
 
     def test_what_no_process_has_is_not_waited_for(self):
         db = self.made()
         for path in (f"{db}.none/a.db", f"{os.path.dirname(db)}/box.conf"):
-            start = time.monotonic()
-            self.assertEqual(self.line(3, "verdicts", path), "archive: K2\n")
-            self.assertLess(seconds_since(start), 5)
+            def waited():
+                start = time.monotonic()
+                self.assertEqual(self.line(3, "verdicts", path), "archive: K2\n")
+                return seconds_since(start)
+
+            self.assertLess(fewest_seconds(waited, 5), 5)
 
     def test_a_server_waits_too(self):
         db = self.accepted()

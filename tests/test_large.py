@@ -420,7 +420,8 @@ class Served(Larger):
             with serving.connected() as client:
                 client.sendall(head_of(name, size))
                 self.assertEqual(rest(client), TOO_LARGE, name)
-            self.assertLess(seconds_since(start), SOON)
+            # A silent client is let go after 30 seconds.
+            self.assertLess(seconds_since(start), 25)
         for size in (most + 1, 4_294_967_296):
             self.assertEqual(status_of(serving.answer(head_of("a.deb", size) + bytes(4 * PIECE))), 413)
         self.check_most("Files that are too large", memory.more(), MOST_MORE)

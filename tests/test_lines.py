@@ -33,7 +33,7 @@ PROGRAMS = [os.path.abspath(it) for it in (PROGRAM, f"{PROGRAM}.by-rattle") if o
 MOST = 1 << 26
 
 # The number of seconds that a line may take.
-LONG = 60
+LONG = 300
 
 # The number of bytes that are shown of texts that differ, and the most of these before the first that differs.
 SHOWN, BEFORE = 160, 80

@@ -14,7 +14,7 @@ import time
 
 from tests import older
 from tests.older import BOX, LAB, RUN
-from tests.program import DATA, NAMES, PROGRAM
+from tests.program import DATA, LONG, NAMES, PROGRAM
 from tests.test_command_lines import Words
 from tests.wants import main, needs, needs_root, needs_strict_tables
 from uploads import uploads
@@ -415,7 +415,7 @@ class Files(Migrations):
                     process.wait(timeout=1)
                 self.assertFalse(os.path.exists(self.db))
                 fcntl.lockf(held, fcntl.LOCK_UN, 512, 1 << 30)
-                self.assertEqual(process.wait(timeout=60), 0)
+                self.assertEqual(process.wait(timeout=LONG), 0)
         self.expect(older.archive())
 
     @needs_root
@@ -434,7 +434,7 @@ class Files(Migrations):
         os.chmod(words[-1], 0o444)
         for mode, answer in ((0o400, K2), (0o444, DONE)):
             os.chmod(self.old, mode)
-            ran = subprocess.run(words, user=nobody, group=nobody, extra_groups=[], capture_output=True, text=True, check=False, timeout=60)
+            ran = subprocess.run(words, user=nobody, group=nobody, extra_groups=[], capture_output=True, text=True, check=False, timeout=LONG)
             self.assertEqual((ran.returncode, ran.stdout, ran.stderr), answer)
             self.assertEqual(os.listdir(f"{self.folder}/old"), ["old.db"])
         self.assertTrue(os.path.exists(f"{self.folder}/own/a.db"))
@@ -457,7 +457,7 @@ class Kills(Migrations):
     def calls(self):
         """The calls of a command that is not killed, each as its name and how many of this name there are up to it."""
         trace, seen = f"{self.folder}/trace", dict.fromkeys(CALLS, 0)
-        subprocess.run(["strace", "-f", "-qq", "-o", trace, "-e", f"trace={','.join(CALLS)}", *self.words()], check=True, timeout=60)
+        subprocess.run(["strace", "-f", "-qq", "-o", trace, "-e", f"trace={','.join(CALLS)}", *self.words()], check=True, timeout=LONG)
         with open(trace, encoding="utf-8") as it:
             for name in re.findall(r"(?m)^(?:\d+ +)?(\w+)\(", it.read()):
                 seen[name] += 1
@@ -471,7 +471,7 @@ class Kills(Migrations):
             with self.subTest(call=name, number=number):
                 self.clear()
                 inject = ["-e", f"trace={name}", "-e", f"inject={name}:signal=SIGKILL:when={number}"]
-                subprocess.run(["strace", "-f", "-qq", "-o", os.devnull, *inject, *self.words()], check=False, timeout=60)
+                subprocess.run(["strace", "-f", "-qq", "-o", os.devnull, *inject, *self.words()], check=False, timeout=LONG)
                 self.assertEqual(self.held(), before)
                 done.append(self.left())
         self.assertIn(False, done)
@@ -481,7 +481,7 @@ class Kills(Migrations):
         self.make(1, more=[older.waiting()])
         before, done = self.held(), []
         start = time.monotonic()
-        subprocess.run(self.words(), check=True, timeout=60)
+        subprocess.run(self.words(), check=True, timeout=LONG)
         whole = time.monotonic() - start
         for part in range(KILLS):
             self.clear()

@@ -95,6 +95,16 @@ class Log(Lines):
         self.assertTrue(found, told)
         return reply, found.groups()
 
+    def logged_within(self, client, most, least=0):
+        """As `logged`. The connection took the least number of milliseconds, and once of three times less than the most: a machine may stall."""
+        for _ in range(3):
+            reply, words = self.logged(client)
+            self.assertGreaterEqual(int(words[5]), least)
+            if int(words[5]) < most:
+                break
+        self.assertLess(int(words[5]), most)
+        return reply, words
+
     def test_what_is_logged_of_a_request_and_its_reply(self):
         for request, method, path, status, body in (
             (get("verdicts"), "GET", "/verdicts", "200 OK", b""),
@@ -118,20 +128,17 @@ class Log(Lines):
         ):
             with self.subTest(request[:40]):
                 wanted = replied(status, body)
-                reply, words = self.logged(lambda serving: serving.answer(request))
+                reply, words = self.logged_within(lambda serving: serving.answer(request), 2000)
                 self.assertEqual(reply, wanted)
                 self.assertEqual(words[:5], ("12", method, path, status[:3], str(len(wanted))))
-                self.assertLess(int(words[5]), 2000)
 
     def test_a_client_without_a_byte(self):
-        reply, words = self.logged(lambda serving: serving.answer(b""))
+        reply, words = self.logged_within(lambda serving: serving.answer(b""), 1000)
         self.assertEqual((reply, words[:5]), (b"", ("12", "-", "-", "-", "0")))
-        self.assertLess(int(words[5]), 1000)
 
     def test_a_silent_client(self):
-        reply, words = self.logged(lambda serving: rest(serving.connected()))
+        reply, words = self.logged_within(lambda serving: rest(serving.connected()), 7000, least=4900)
         self.assertEqual((reply, words[:5]), (b"", ("12", "-", "-", "-", "0")))
-        self.assertTrue(4900 <= int(words[5]) < 7000, words)
 
     def test_a_client_that_resets(self):
         def client(serving):
@@ -150,9 +157,8 @@ class Log(Lines):
             serving.ended()
             return rest(it)
 
-        reply, words = self.logged(client)
+        reply, words = self.logged_within(client, 4000, least=1900)
         self.assertEqual((reply, words[:5]), (NOTHING, ("12", "GET", "/verdicts", "200", str(len(NOTHING)))))
-        self.assertTrue(1900 <= int(words[5]) < 4000, words)
 
     def test_lines_stand_in_the_order_of_the_connections(self):
         with Serving(self.made(), 3, "--log") as serving:

@@ -8,7 +8,7 @@ import shutil
 import sqlite3
 import subprocess
 
-from tests.program import DATA, NAMES, PROGRAM, Lines, Serving, get
+from tests.program import DATA, LONG, NAMES, PROGRAM, Lines, Serving, get
 from tests.wants import main, needs, needs_strict_tables
 from uploads import uploads
 
@@ -223,7 +223,7 @@ class Others(Lines):
         of_sqlite(self.beside, NOTES + "ANALYZE;")
         before, source = kept(self.beside), self.beside
         self.beside = f"{self.folder}/dumped.db"
-        ran = subprocess.run(["sh", "-ec", f"sqlite3 {source} .dump | sqlite3 {self.beside}"], capture_output=True, check=False, timeout=60)
+        ran = subprocess.run(["sh", "-ec", f"sqlite3 {source} .dump | sqlite3 {self.beside}"], capture_output=True, check=False, timeout=LONG)
         self.assertEqual((ran.returncode, ran.stdout, ran.stderr), (0, b"", b""))
         self.each_word(COUNT, MOMENTS[0])
         self.assertEqual(kept(self.beside), before)

@@ -72,7 +72,7 @@ apt-get -o Dir::Etc::sourcelist=/etc/apt/box.list -o Dir::Etc::sourceparts=- --p
 apt install --reinstall -y boqitsel > /dev/null
 apt remove -y boqitsel > /dev/null
 kill $serving
-for _ in $(seq 100); do test ! -e "/proc/$serving" || sleep 0.1; done
+for _ in $(seq 1000); do test ! -e "/proc/$serving" || sleep 0.1; done
 test -e "/proc/$serving" || { trap - EXIT; echo ended; }
 test ! -e /usr/bin/archive && test ! -e /usr/bin/boqitsel && test ! -e /etc/alternatives/archive
 test -e /srv/box/box.db && echo kept
@@ -166,7 +166,8 @@ ls /etc/systemd/system/*.wants | grep boqitsel | sort
 dpkg -i /given/*.deb > /dev/null
 cat /asked 2> /dev/null || true
 echo again
-dpkg -r boqitsel > /dev/null
+mkdir -p /srv/box
+dpkg -r boqitsel | grep '^boqitsel: '
 cat /asked
 ls /etc/systemd/system/*.wants | grep boqitsel || echo none
 """
@@ -298,6 +299,8 @@ class Package(Room):
             ("boqitsel-backup.timer", snippet("backup.timer")),
         ):
             self.assertEqual((units / name).read_text(), text)
+            if name.endswith(".service"):
+                self.assertIn(f"\nSyslogIdentifier={name.removesuffix('.service')}\n", text)
         examples = root / "usr/share/doc/boqitsel/examples"
         self.assertEqual((examples / "box.conf").read_text(), snippet("configuration"))
         self.assertEqual((examples / "three-suites.conf").read_text(), snippet("three suites"))
@@ -307,6 +310,10 @@ class Package(Room):
         self.assertEqual((examples / "export.conf").read_text(), snippet("export.conf", {"/usr/local/bin/archive": "/usr/bin/boqitsel"}))
         self.assertEqual((examples / "nginx.conf").read_text(), snippet("nginx"))
         self.assertEqual((examples / "nginx-tree.conf").read_text(), snippet("tree by nginx"))
+        self.assertEqual((examples / "sign.conf").read_text(), snippet("sign.conf"))
+        self.assertEqual((examples / "prometheus.yml").read_text(), snippet("prometheus.yml"))
+        self.assertEqual((examples / "alerts.yml").read_text(), snippet("alerts"))
+        self.assertEqual({it.name for it in examples.iterdir()}, {*make_deb().EXAMPLES, "export.conf"})
         # What the lines for a signed tree copy and enable is there.
         begin = snippet("signed tree as a service")
         for name in re.findall(r"/usr/share/doc/boqitsel/examples/(\S+)", begin):
@@ -427,7 +434,7 @@ class Scripts(Root):
 
     @needs("systemctl", "deb-systemd-invoke")
     def test_a_removal_ends_the_units(self):
-        """An upgrade does not."""
+        """It says what stays. An upgrade ends nothing."""
         self.with_package()
         (self.room / "given/systemctl").write_text(SYSTEMCTL)
         (self.room / "given/systemctl").chmod(0o755)
@@ -435,6 +442,7 @@ class Scripts(Root):
         enabled = [f"boqitsel{it}" for it in parts]
         *first, disabling, reloading, last = self.inside(UNITS_END).splitlines()
         self.assertEqual(first[: len(enabled) + 1], [*enabled, "again"])
+        self.assertRegex(first[len(enabled) + 1], r"\Aboqitsel: /srv/box stays ")
         stopped = [it for line in first[len(enabled) + 1 :] for it in line.split() if it.startswith("boqitsel") and " stop " in line]
         self.assertEqual(sorted(stopped), sorted(make_deb().UNITS))
         self.assertEqual(sorted(disabling.split()[3:]), enabled)

@@ -134,7 +134,7 @@ class Files(Bodies):
         pipe = f"{folder}/piped.deb"
         os.mkfifo(pipe)
         for word in ("new", "again"):
-            writer = threading.Thread(target=written, args=(pipe, LARGE))
+            writer = threading.Thread(target=written, args=(pipe, LARGE), daemon=True)
             writer.start()
             self.assertEqual(self.line(0, "put", db, "--at", "0", pipe), f"{word} piped.deb\n")
             writer.join()

@@ -17,7 +17,7 @@ import subprocess
 import tempfile
 
 from tests import rows
-from tests.program import PROGRAM, ROOT, Lines, Serving, put_of
+from tests.program import LONG, PROGRAM, ROOT, Lines, Serving, put_of
 from tests.test_lines import difference
 from tests.wants import main, needs
 
@@ -99,7 +99,7 @@ class Asked:
     def ran(self, word, *words):
         """What a command prints, which finds the archive alone."""
         self.close()
-        ran = subprocess.run([PROGRAM, word, "--db", self.db, *words], capture_output=True, check=False, timeout=60)
+        ran = subprocess.run([PROGRAM, word, "--db", self.db, *words], capture_output=True, check=False, timeout=LONG)
         return ran.stdout if ran.returncode == 0 else b"status %d\n" % ran.returncode + ran.stderr
 
     def close(self):
@@ -195,7 +195,7 @@ class Questions(Lines):
             archive.close()
         self.assertGreater(len(wanted), 5)
         for text in (*wanted, found):
-            ran = subprocess.run(["promtool", "check", "metrics"], input=text, capture_output=True, check=False, timeout=60)
+            ran = subprocess.run(["promtool", "check", "metrics"], input=text, capture_output=True, check=False, timeout=LONG)
             self.assertEqual((ran.returncode, ran.stdout, ran.stderr, text.count(b"# TYPE ")), (0, b"", b"", 10))
 
 

@@ -1,8 +1,10 @@
-"""Tests of tests/run.py: how the gate is begun with which kit, by an rt that writes down what it is asked, and what the last lines are."""
+"""Tests of tests/run.py: how the gate is begun with which kit, by an rt that writes down what it is asked; what is printed of tools while they run;
+and what the last lines are."""
 import contextlib
 import io
 import os
 import pathlib
+import re
 import subprocess
 import sys
 import tempfile
@@ -18,6 +20,59 @@ echo "$* RT_JOBS=$RT_JOBS" >> {room}/asked
 test $# = 1 && echo "7 passed, {failed} failed" && exit {failed}
 exit 0
 """
+# The beginning of a tool that waits until a file is there, but no longer than a minute.
+WAITS = """
+import os, sys, time
+
+end = time.monotonic() + 60
+while not os.path.exists({!r}) and time.monotonic() < end:
+    time.sleep(0.01)
+"""
+# A module whose tests fail: in a part, below another exception, with a long line, and with a list that has another element.
+FAILING = """
+import sys, unittest
+
+
+class Some(unittest.TestCase):
+    def test_a(self):
+        \"\"\"It has a line of its own.\"\"\"
+        for number in (1, 2):
+            with self.subTest(number):
+                self.assertEqual(number, 1, "it was\\nthe second")
+
+    def test_b(self):
+        try:
+            self.no_value()
+        except KeyError:
+            raise ValueError("one line\\n  one that is indented\\nanother line")
+
+    def no_value(self):
+        return {}["none"]
+
+    def test_c(self):
+        self.fail("a" * 900 + "b")
+
+    def test_d(self):
+        self.assertEqual([1, 2], [1, 3])
+
+
+unittest.main(argv=["some", *sys.argv[1:]])
+"""
+OF_FAILING = [
+    "    ERROR: test_b, line 16",
+    "        ValueError: one line",
+    "        another line",
+    "    FAIL: test_a [2], line 10",
+    "        AssertionError: 2 != 1 : it was",
+    "        the second",
+    "    FAIL: test_c, line 22",
+    f"        AssertionError: {'a' * 180}..{'a' * 97}b",
+    "    FAIL: test_d, line 25",
+    "        AssertionError: Lists differ: [1, 2] != [1, 3]",
+    "        2",
+    "        - [1, 2]",
+    "    and 1 more",
+]
 WORK = r"\AIt took [\d,]+ seconds of processor, on \d+ processors\. One adds 5,000,000 numbers in \d+\.\d\d seconds\.\Z"
 
 
@@ -115,24 +170,70 @@ class Lines(unittest.TestCase):
         with contextlib.redirect_stdout(printed), unittest.mock.patch.dict(os.environ):
             status = run.run_all(part, lambda: (1, 2, "The gate took 2.5 minutes."), lambda: (0, 0))
         wanted = ["Skipped, since there is no strace:", "    tests.a One.b", "    tests.c Two.e", "Skipped, since there is no gpg:", "    tests.c Two.d"]
-        wanted = ["The gate took 2.5 minutes.", *wanted, "3 skipped", "6 passed, 2 failed"]
+        wanted = [*wanted, "The gate took 2.5 minutes.", "3 skipped", "6 passed, 2 failed"]
         self.assertEqual((status, printed.getvalue().splitlines()), (1, wanted))
         self.assertEqual(run.told_of_skipped([]), ["0 skipped"])
 
     def test_which_tools_failed(self):
-        with unittest.mock.patch.object(run, "is_passed", lambda line: line == "good"):
-            self.assertEqual(run.each_of(["good", "bad --part", "good", "tests.none"])(), (2, 2, "Failed: bad --part", "Failed: tests.none"))
+        ends = {"good": (0, ""), "bad --part": (1, "said\n"), "tests.none": (-9, "")}
+        printed = io.StringIO()
+        with unittest.mock.patch.object(run, "ran", ends.get), contextlib.redirect_stdout(printed):
+            lines = ["Failed: bad --part", "    said", "Failed: tests.none", "    ended by signal 9"]
+            self.assertEqual(run.each_of(["good", "bad --part", "good", "tests.none"])(), (2, 2, *lines))
             self.assertEqual(run.each_of(["good"])(), (1, 0))
+        self.assertEqual(printed.getvalue().splitlines(), ["== good", "== bad --part", "== good", "== tests.none", "== good"])
+
+    def test_what_failed_in_a_tool(self):
+        """Of tests their names and exceptions, and else the last lines that are not empty. What is in brackets after a name differs between versions
+        of Python."""
+        with tempfile.TemporaryDirectory() as room:
+            failing, plain = f"{room}/failing", f"{room}/plain"
+            pathlib.Path(failing).write_text(FAILING)
+            pathlib.Path(plain).write_text("print(*range(9), '', 'x' * 301, sep='\\n')\nraise SystemExit('its end')")
+            with contextlib.redirect_stdout(io.StringIO()):
+                for together in (1, 2):
+                    passed, failed, first, *more = run.each_of([failing], together)()
+                    self.assertEqual((passed, failed, first), (0, 1, f"Failed: {failing}"))
+                    self.assertEqual([re.sub(r" \(__main__\.Some\S*\)", "", it) for it in more], OF_FAILING)
+                last = ["    6", "    7", "    8", f"    {'x' * 200}..{'x' * 98}", "    its end"]
+                self.assertEqual(run.each_of([plain], 2)(), (0, 1, f"Failed: {plain}", *last))
+
+    def test_lines_on_what_failed_are_few(self):
+        """Twelve on one tool. Several share them, and each has three."""
+        faults = [str(it) for it in range(13)]
+        for count, most in ((1, 12), (2, 6), (3, 4), (4, 3), (9, 3)):
+            wanted = ["Failed: one", *(f"    {it}" for it in faults[:most]), f"    and {13 - most} more"]
+            self.assertEqual([*run.told_of_failed([("one", faults)] * count)], wanted * count)
+        self.assertEqual([*run.told_of_failed([("one", faults[:12])])], ["Failed: one", *(f"    {it}" for it in faults[:12])])
+        self.assertEqual([*run.told_of_failed([])], [])
+
+    def test_what_runs_alone_is_printed_as_it_comes(self):
+        """The tool waits until its first line is printed here. It then prints bytes that are no text."""
+        with tempfile.TemporaryDirectory() as room:
+            tool, begun = f"{room}/tool", pathlib.Path(room, "begun")
+            pathlib.Path(tool).write_text(f"print('first', flush=True)\n{WAITS.format(str(begun))}sys.stdout.buffer.write(b'\\xff\\r50%\\nlast')\nsys.exit(not os.path.exists({str(begun)!r}))\n")
+
+            class Printed(io.StringIO):
+                def write(self, text):
+                    if text == "first\n":
+                        begun.touch()
+                    return super().write(text)
+
+            with contextlib.redirect_stdout(Printed()) as printed:
+                self.assertEqual(run.each_of([tool])(), (1, 0))
+        self.assertEqual(printed.getvalue(), f"== {tool}\nfirst\n\ufffd\r50%\nlast")
 
     def test_what_runs_together_is_printed_in_order(self):
-        """The first tool ends last."""
+        """The first tool ends last: it waits for the last one."""
         with tempfile.TemporaryDirectory() as room:
-            for name, seconds, status in (("slow", 1, 0), ("bad", 0, 3), ("good", 0, 0)):
-                pathlib.Path(room, name).write_text(f"import sys, time\ntime.sleep({seconds})\nprint(sys.argv)\nsys.stdout.flush()\nprint('its end', file=sys.stderr)\nsys.exit({status})\n")
+            begun = f"{room}/begun"
+            for name, first, status in (("slow", WAITS.format(begun), 0), ("bad", "", 3), ("good", f"open({begun!r}, 'w').close()\n", 0)):
+                text = f"{first}import sys\nprint(sys.argv)\nsys.stdout.flush()\nprint('its end', file=sys.stderr)\nsys.exit({status})\n"
+                pathlib.Path(room, name).write_text(text)
             lines, printed = [f"{room}/{it}" for it in ("slow --part 1", "bad", "good")], io.StringIO()
             with contextlib.redirect_stdout(printed):
                 came = run.each_of(lines, 2)()
-        self.assertEqual(came, (2, 1, f"Failed: {room}/bad"))
+        self.assertEqual(came, (2, 1, f"Failed: {room}/bad", f"    ['{room}/bad']", "    its end"))
         wanted = [f"== {room}/slow --part 1", f"['{room}/slow', '--part', '1']", "its end"]
         wanted += [line for name in ("bad", "good") for line in (f"== {room}/{name}", f"['{room}/{name}']", "its end")]
         self.assertEqual(printed.getvalue().splitlines(), wanted)

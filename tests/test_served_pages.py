@@ -364,8 +364,8 @@ class Hostile(Case):
         """What a browser makes of a page, and what it asks for of the archive's address, or because of a text."""
         server.asked = []
         words = [*self.room.browser(), "--proxy-server=%s:%d" % server.server_address, "--proxy-bypass-list=<-loopback>"]
-        words += ["--timeout=20000", "--virtual-time-budget=3000", "--dump-dom", url]
-        ran = subprocess.run(words, capture_output=True, text=True, check=True, timeout=120)
+        words += ["--timeout=100000", "--virtual-time-budget=3000", "--dump-dom", url]
+        ran = subprocess.run(words, capture_output=True, text=True, check=True, timeout=300)
         place = address_of(server.serving)
         return Page(ran.stdout.strip()), [it.removeprefix(place) for it in server.asked if it.startswith(f"{place}/") or "/ran/" in it]
 

@@ -14,7 +14,7 @@ import tempfile
 import time
 
 from tests.ports import free_address
-from tests.program import DATA, NAMES, Lines, Serving, get, put, put_of, replied, reset, rest, seconds_since, status_of, wait_until_read
+from tests.program import DATA, LONG, NAMES, Lines, Serving, fewest_seconds, get, put, put_of, replied, reset, rest, seconds_since, status_of, wait_until_read
 from tests.wants import main, needs
 
 NOTHING = replied("200 OK", b"")
@@ -36,20 +36,24 @@ F_SETPIPE_SZ = 1031
 
 class Deadlines(Lines):
     def test_a_silent_client_is_closed_and_a_quick_one_beside_it_answered(self):
-        with Serving(self.made(), 2) as serving:
-            silent, start = serving.connected(), time.monotonic()
-            self.assertEqual(serving.answer(get("verdicts")), NOTHING)
-            waited = seconds_since(start)
-            self.assertEqual(rest(silent), b"")
-            self.assertEqual(serving.ended(), (0, "", ""))
-        print(f"The quick client beside a silent one was answered behind {waited:.2f} s.")
-        self.assertGreaterEqual(waited, 4.9)
-        self.assertLess(waited, 7)
+        def waited():
+            with Serving(self.made(), 2) as serving:
+                begun, silent, start = time.monotonic(), serving.connected(), time.monotonic()
+                self.assertEqual(serving.answer(get("verdicts")), NOTHING)
+                seconds = seconds_since(start)
+                self.assertGreaterEqual(seconds_since(begun), 4.9)
+                self.assertEqual(rest(silent), b"")
+                self.assertEqual(serving.ended(), (0, "", ""))
+            return seconds
+
+        fewest = fewest_seconds(waited, 7)
+        print(f"The quick client beside a silent one was answered behind {fewest:.2f} s.")
+        self.assertLess(fewest, 7)
 
     def test_a_client_with_a_first_byte_may_be_silent_for_longer(self):
         request = get("verdicts")
         with Serving(self.made(), 1) as serving, serving.connected() as client:
-            time.sleep(4)
+            time.sleep(1)
             client.sendall(request[:1])
             time.sleep(6)
             client.sendall(request[1:])
@@ -71,24 +75,31 @@ class Deadlines(Lines):
                 self.assertEqual(serving.ended(), (0, "", ""))
 
     def test_a_client_that_stays_behind_its_reply_is_let_go(self):
-        with Serving(self.made(), 2) as serving, serving.connected() as staying:
-            staying.sendall(get("verdicts"))
-            start = time.monotonic()
-            self.assertEqual(serving.answer(get("verdicts")), NOTHING)
-            waited = seconds_since(start)
-            self.assertEqual(rest(staying), NOTHING)
-            self.assertEqual(serving.ended(), (0, "", ""))
-        self.assertGreaterEqual(waited, 1.9)
-        self.assertLess(waited, 4)
+        def waited():
+            with Serving(self.made(), 2) as serving, serving.connected() as staying:
+                start = time.monotonic()
+                staying.sendall(get("verdicts"))
+                self.assertEqual(serving.answer(get("verdicts")), NOTHING)
+                seconds = seconds_since(start)
+                self.assertEqual(rest(staying), NOTHING)
+                self.assertEqual(serving.ended(), (0, "", ""))
+            self.assertGreaterEqual(seconds, 1.9)
+            return seconds
+
+        self.assertLess(fewest_seconds(waited, 4), 4)
 
     def test_a_client_that_goes_on_sending_behind_its_reply_is_let_go(self):
-        with Serving(self.made(), 2) as serving, serving.connected() as sending:
-            start = time.monotonic()
-            with self.assertRaises(ConnectionError):
-                sending.sendall(get("verdicts") + b"." * 64_000_000)
-            self.assertEqual(serving.answer(get("verdicts")), NOTHING)
-            self.assertLess(seconds_since(start), 4)
-            self.assertEqual(serving.ended(), (0, "", ""))
+        def waited():
+            with Serving(self.made(), 2) as serving, serving.connected() as sending:
+                start = time.monotonic()
+                with self.assertRaises(ConnectionError):
+                    sending.sendall(get("verdicts") + b"." * 64_000_000)
+                self.assertEqual(serving.answer(get("verdicts")), NOTHING)
+                seconds = seconds_since(start)
+                self.assertEqual(serving.ended(), (0, "", ""))
+            return seconds
+
+        self.assertLess(fewest_seconds(waited, 4), 4)
 
     def test_a_client_that_has_sent_much_of_a_body_that_is_too_large_reads_why(self):
         with Serving(self.made(), 1) as serving, serving.connected() as client:
@@ -192,11 +203,13 @@ class Beginnings(Lines):
         with Serving(db, 2) as holder, contextlib.ExitStack() as stack:
             self.assertEqual(holder.answer(b""), b"")
             held, serving = holder.connected(), stack.enter_context(Serving(db, 20))
+            # A client that has sent a byte keeps the first server busy for longer than one that is silent.
+            held.sendall(b"G")
             clients = [serving.sent(get("verdicts")) for _ in range(20)]
             clients[0].settimeout(1)
             with self.assertRaises(TimeoutError):
                 clients[0].recv(1)
-            clients[0].settimeout(60)
+            clients[0].settimeout(LONG)
             held.close()
             self.assertEqual(holder.ended(), (0, "", ""))
             self.assertEqual([rest(it) for it in clients], [ACCEPTED] * 20)
@@ -214,7 +227,7 @@ class Beginnings(Lines):
                 client.recv(1)
             self.assertTrue(serving.is_running())
             resource.prlimit(serving.process.pid, resource.RLIMIT_NOFILE, (hard, hard))
-            client.settimeout(60)
+            client.settimeout(LONG)
             self.assertEqual([rest(it) for it in (begun, client)], [NOTHING] * 2)
             self.assertEqual(serving.answer(get("verdicts")), NOTHING)
             self.assertEqual(serving.ended(), (0, "", ""))
@@ -266,7 +279,7 @@ class Unread(Lines):
             start = time.monotonic()
             for number in range(self.COUNT - 3):
                 self.assertEqual(status_of(serving.answer(get(f"{number}/" + "a" * self.LONG_PATH))), 404)
-            self.assertLess(seconds_since(start), 20)
+            self.assertLess(seconds_since(start), LONG)
             told = os.read(reader, 4096)
             for number in range(self.COUNT - 3, self.COUNT):
                 self.assertEqual(status_of(serving.answer(get(f"{number}/"))), 404)

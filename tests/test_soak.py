@@ -47,7 +47,7 @@ class Soak(unittest.TestCase):
     def soak(self, *words, program=PROGRAM, folder="soak"):
         """Runs it in a folder. Answers the status, and what it printed."""
         line = [sys.executable, "-m", "tests.soak", os.path.abspath(program), "--folder", f"{self.folder}/{folder}", *words]
-        ran = subprocess.run(line, cwd=ROOT, capture_output=True, text=True, check=False, timeout=600)
+        ran = subprocess.run(line, cwd=ROOT, capture_output=True, text=True, check=False, timeout=1800)
         self.assertEqual(ran.stderr, "")
         return ran.returncode, ran.stdout
 

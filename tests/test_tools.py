@@ -104,11 +104,11 @@ class Installing(unittest.TestCase):
         self.assertEqual(self.said(), [])
 
     def test_what_does_not_end_is_ended(self):
-        self.apt(install="sleep 60 & sleep 60")
+        self.apt(install="sleep 600 & sleep 600")
         self.tool.MOST, began = 1, time.monotonic()
         [_, line] = self.install("pack-a")
         self.assertRegex(line, "^tools: not there: pack-a: there was no time left$")
-        self.assertLess(time.monotonic() - began, 20)
+        self.assertLess(time.monotonic() - began, 300)
 
 
 if __name__ == "__main__":

@@ -4,6 +4,7 @@ import base64
 import collections
 import contextlib
 import hashlib
+import http.client
 import http.server
 import io
 import itertools
@@ -11,7 +12,7 @@ import os
 import pathlib
 import random
 import re
-import resource
+import signal
 import socket
 import struct
 import subprocess
@@ -23,7 +24,6 @@ import unittest
 import unittest.mock
 import urllib.parse
 
-from tests.ports import free_port
 from tests.snippets import built, snippet
 from tests.tools import ROOT, tool
 from tests.wants import main, needs
@@ -42,12 +42,48 @@ FILES = [
 ]
 NEW = "".join(f"new {name}\n" for name in FILES)
 AGAIN = NEW.replace("new ", "again ")
-# How long a test waits for what should come, in seconds.
-LONG = 120
+# What the server here says with status 413: versions of Python differ in it.
+TOO_LARGE = http.HTTPStatus(413).phrase
+# How long a test waits for what should come, in seconds: longer than the command waits for a server that says nothing.
+LONG = 300
 
 
 def sha256(body):
     return hashlib.sha256(body).hexdigest()
+
+
+# ---- the command
+
+
+@contextlib.contextmanager
+def running(line, **more):
+    """A command that runs. It is killed at the end, and if it takes too long."""
+    with subprocess.Popen(line, stdout=subprocess.PIPE, stderr=subprocess.PIPE, text=True, **more) as process:
+        limit = threading.Timer(LONG, process.kill)
+        limit.start()
+        try:
+            yield process
+        finally:
+            limit.cancel()
+            process.kill()
+
+
+def ran(line):
+    """Runs a command, and answers its status and what it prints on both outputs."""
+    with running(line) as process:
+        printed, told = process.communicate()
+    return process.returncode, printed, told
+
+
+def over(process):
+    """Lets the time of a command be over now: it gets the signal that the system sends it after the seconds of --within. Answers its status, and
+    what it printed on both outputs that was not read before."""
+    process.send_signal(signal.SIGALRM)
+    printed, told = process.stdout.read(), process.stderr.read()
+    return process.wait(), printed, told
+
+
+# ---- servers
 
 
 class Archive:
@@ -190,48 +226,62 @@ def reset(client):
     client.close()
 
 
-class Answers:
-    """A server that is no archive: it reads the head of each request, and then sends these pieces, without end if there is no end of them."""
+class Listener:
+    """A server with a thread that takes its connections, one after the other."""
 
-    def __init__(self, pieces):
-        self.pieces, self.count = pieces, 0
+    def __init__(self):
+        self.count = 0
         self.listener = socket.create_server(("127.0.0.1", 0))
         self.port = self.listener.getsockname()[1]
-        threading.Thread(target=self.go, daemon=True).start()
+        self.thread = threading.Thread(target=self.go, daemon=True)
+        self.thread.start()
 
     def go(self):
         with contextlib.suppress(OSError):
             while True:
                 client = self.listener.accept()[0]
                 self.count += 1
-                with contextlib.suppress(OSError), client, client.makefile("rb") as request:
-                    while request.readline().strip():
-                        pass
-                    for piece in self.pieces():
-                        client.sendall(piece)
+                self.take(client)
 
     def close(self):
+        """Ends the thread, and then closes the listener. A thread that still waited would do so by the number of a file that is closed. If this process is
+        stopped and goes on, the system begins the wait again, and then it is for connections of the file that has the number by then."""
+        self.listener.shutdown(socket.SHUT_RDWR)
+        self.thread.join(LONG)
         self.listener.close()
 
 
-class Proxy:
+class Answers(Listener):
+    """A server that is no archive: it reads each request, and then sends these pieces, without end if there is no end of them. At the request of
+    a number that may be given it is silent until the client goes."""
+
+    def __init__(self, pieces, silent=None):
+        self.pieces, self.silent, self.is_silent = pieces, silent, threading.Event()
+        super().__init__()
+
+    def take(self, client):
+        with contextlib.suppress(OSError), client, client.makefile("rb") as request:
+            request.readline()
+            request.read(int(http.client.parse_headers(request)["Content-Length"] or 0))
+            if self.count == self.silent:
+                self.is_silent.set()
+                request.read()
+                return
+            for piece in self.pieces():
+                client.sendall(piece)
+
+
+class Proxy(Listener):
     """Hands connections on to a port, and cuts one in three: before anything is handed on, within the request, after it, or within the reply."""
 
     def __init__(self, behind):
-        self.behind, self.count, self.cuts = behind, 0, collections.Counter()
-        self.random = random.Random(1)
-        self.listener = socket.create_server(("127.0.0.1", 0))
-        self.port = self.listener.getsockname()[1]
-        threading.Thread(target=self.go, daemon=True).start()
+        self.behind, self.cuts, self.random = behind, collections.Counter(), random.Random(1)
+        super().__init__()
 
-    def go(self):
-        with contextlib.suppress(OSError):
-            while True:
-                client = self.listener.accept()[0]
-                self.count += 1
-                cut = ("accept", "request", "reply", "answer")[self.count // 3 % 4] if self.count % 3 == 0 else None
-                self.cuts[cut] += 1
-                threading.Thread(target=self.hand_on, args=(client, cut), daemon=True).start()
+    def take(self, client):
+        cut = ("accept", "request", "reply", "answer")[self.count // 3 % 4] if self.count % 3 == 0 else None
+        self.cuts[cut] += 1
+        threading.Thread(target=self.hand_on, args=(client, cut), daemon=True).start()
 
     def hand_on(self, client, cut):
         if cut == "accept":
@@ -260,9 +310,6 @@ class Proxy:
         client.close()
         return None
 
-    def close(self):
-        self.listener.close()
-
 
 @needs("dpkg-deb")
 class Uploads(unittest.TestCase):
@@ -281,15 +328,51 @@ class Uploads(unittest.TestCase):
     def url_of(self, port):
         return f"http://127.0.0.1:{port}"
 
-    def upload(self, *words, url=None, changes=None):
+    def line(self, *words, url=None, changes=None):
+        """The line of the command."""
+        return [sys.executable, TOOL, url or self.url, changes or self.changes, *words]
+
+    def upload(self, *words, **more):
         """Runs the command, and answers its status and what it prints on both outputs."""
-        line = [sys.executable, TOOL, url or self.url, changes or self.changes, *words]
-        ran = subprocess.run(line, capture_output=True, text=True, check=False, timeout=LONG)
-        return ran.returncode, ran.stdout, ran.stderr
+        return ran(self.line(*words, **more))
 
     def check(self, wanted, *words, told="", **more):
         """Checks the status and what is printed."""
         self.assertEqual(self.upload(*words, **more), (*wanted, told))
+
+    def run_after(self, path):
+        """The archive runs the queue each time after it was asked for this path, as if a timer asked for a run then."""
+        answer = self.archive.answer
+
+        def answer_and_run(*request):
+            reply = answer(*request)
+            if request[1] == path:
+                self.archive.run()
+            return reply
+
+        self.archive.answer = answer_and_run
+
+    @contextlib.contextmanager
+    def stopped_at(self, wanted, number=1, is_done=True, url=None):
+        """The command, stopped at a request: it has sent one with this method and path for this time, and gets no reply. The archive has done what
+        was asked for, or does it after the command has ended."""
+        came, ended, times, answer = threading.Event(), threading.Event(), itertools.count(1), self.archive.answer
+
+        def answer_late(*request):
+            reply = answer(*request) if is_done else None
+            if request[:2] == wanted and next(times) == number:
+                came.set()
+                ended.wait(LONG)
+            return reply or answer(*request)
+
+        self.archive.answer = answer_late
+        try:
+            with running(self.line("--run", "--within", "1000", url=url)) as process:
+                self.assertTrue(came.wait(LONG), wanted)
+                yield process
+        finally:
+            self.archive.answer = answer
+            ended.set()
 
     def check_book(self):
         """Checks that the archive has each file once, as it is here."""
@@ -339,7 +422,7 @@ class Uploads(unittest.TestCase):
     def test_a_refusal_ends_it_at_once(self):
         for status, text, line in (
             (422, "Q3 C1 P3:1\n", "refused Q3 C1 P3:1 {}"),
-            (413, "413 Payload Too Large\n", "refused 413 Request Entity Too Large {}"),
+            (413, "413 Payload Too Large\n", f"refused 413 {TOO_LARGE} {{}}"),
             (404, "404 Not Found\n", "refused 404 Not Found {}"),
             (302, "", "refused 302 Found {}"),
             (422, "Q1 \x1b]52;c;\x07", "refused Q1 ?]52;c;? {}"),
@@ -347,9 +430,7 @@ class Uploads(unittest.TestCase):
             with self.subTest(line):
                 self.archive.requests.clear()
                 self.archive.faults["PUT", f"/incoming/{FILES[1]}"] = [(status, text, "always")]
-                began = time.monotonic()
                 done = self.upload("--run")
-                self.assertLess(time.monotonic() - began, 30)
                 self.assertEqual((done[0], done[2]), (1, ""))
                 self.assertEqual(done[1].splitlines()[1], line.format(FILES[1]))
                 self.assertEqual(len(done[1].splitlines()), 3)
@@ -361,7 +442,7 @@ class Uploads(unittest.TestCase):
             (
                 413,
                 "413 Payload Too Large\n",
-                "refused 413 Request Entity Too Large {}",
+                f"refused 413 {TOO_LARGE} {{}}",
                 "The file is larger than the archive takes, 4 MiB or what MaxFileSize says in its configuration, or than the proxy takes.",
             ),
             (422, "Q2\n", "refused Q2 {}", "The file is larger than the archive takes: 4 MiB, or what MaxFileSize says in its configuration."),
@@ -486,14 +567,14 @@ class Uploads(unittest.TestCase):
             ("http://127.0.0.1/", "-\x1b]0;pwned\x07.changes"),
             (self.url, self.changes, "--other"),
         ):
-            ran = subprocess.run([sys.executable, TOOL, *words], capture_output=True, text=True, check=False, timeout=LONG)
-            self.assertEqual((ran.returncode, ran.stdout), (2, ""), words)
-            self.assertRegex(ran.stderr, r"\Ausage: .*\nupload: error: [^\0-\x1f]*\n\Z")
+            status, printed, told = ran([sys.executable, TOOL, *words])
+            self.assertEqual((status, printed), (2, ""), words)
+            self.assertRegex(told, r"\Ausage: .*\nupload: error: [^\0-\x1f]*\n\Z")
         self.assertEqual(self.archive.requests, [])
-        ran = subprocess.run([sys.executable, TOOL, "--help"], capture_output=True, text=True, check=False, timeout=LONG)
-        self.assertEqual((ran.returncode, ran.stderr), (0, ""))
-        self.assertIn("upload URL FILE.changes", ran.stdout)
-        self.assertIn("MaxFileSize", ran.stdout)
+        status, printed, told = ran([sys.executable, TOOL, "--help"])
+        self.assertEqual((status, told), (0, ""))
+        self.assertIn("upload URL FILE.changes", printed)
+        self.assertIn("MaxFileSize", printed)
 
     def test_what_is_no_upload(self):
         for name, text in (("none", None), ("other", "Format: 1.8\n")):
@@ -568,23 +649,28 @@ class Uploads(unittest.TestCase):
         self.assertEqual(self.archive.requests, [])
 
     def test_what_is_not_reached(self):
-        port = free_port()
-        status, printed, told = self.upload("--within", "1", url=self.url_of(port))
+        """A server that does not listen yet refuses each connection. It then takes one, and is silent."""
+        with socket.socket() as server:
+            server.settimeout(LONG)
+            server.bind(("127.0.0.1", 0))
+            with running(self.line("--within", "1000", url=self.url_of(server.getsockname()[1]))) as process:
+                first = process.stderr.readline()
+                server.listen()
+                with server.accept()[0]:
+                    status, printed, told = over(process)
         self.assertEqual((status, printed), (3, ""))
-        self.assertRegex(told, r"Connection refused; trying again\nupload: not done within 1 seconds: /incoming/\S+: .*Connection refused\n$")
+        self.assertRegex(first, r"\Aupload: /incoming/\S+: .*Connection refused; trying again\n\Z")
+        self.assertEqual(told, first.replace("upload: ", "upload: not done within 1000 seconds: ").replace("; trying again", ""))
         with socket.create_server(("127.0.0.1", 0)) as silent:
-            began = time.monotonic()
-            status, printed, told = self.upload("--within", "2", url=self.url_of(silent.getsockname()[1]))
-            self.assertEqual((status, printed, told), (3, "", "upload: not done within 2 seconds: nothing was answered\n"))
-            self.assertLess(time.monotonic() - began, 20)
+            began, told = time.monotonic(), "upload: not done within 2 seconds: nothing was answered\n"
+            self.check((3, ""), "--within", "2", url=self.url_of(silent.getsockname()[1]), told=told)
+            self.assertGreaterEqual(time.monotonic() - began, 2)
         self.archive.faults["PUT", f"/incoming/{FILES[0]}"] = [(200, "welcome", "always")]
         self.check((3, ""), told=f"upload: what answers at {self.url} is no archive\n")
 
     def test_whoever_may_not_ask_for_a_run_waits_for_one(self):
         self.archive.faults["POST", "/queue/run"] = [(405, "", "always")]
-        timer = threading.Timer(3, self.archive.run)
-        timer.start()
-        self.addCleanup(timer.cancel)
+        self.run_after("/verdicts")
         status, printed, told = self.upload("--run")
         self.assertEqual((status, printed), (0, f"{NEW}accepted {CHANGES}\n"))
         self.assertEqual(told, f"upload: {CHANGES} has no verdict yet; trying again\n")
@@ -593,9 +679,7 @@ class Uploads(unittest.TestCase):
         """The verdict is that of this upload, if it can be distinguished."""
         self.archive.verdicts = [f"refused 5 {CHANGES}\n", f"refused 3 other-{CHANGES}\n"]
         self.archive.faults["POST", "/queue/run"] = [(405, "", "always")]
-        timer = threading.Timer(2, self.archive.run)
-        timer.start()
-        self.addCleanup(timer.cancel)
+        self.run_after("/verdicts")
         self.assertEqual(self.upload("--run")[:2], (0, f"{NEW}accepted {CHANGES}\n"))
         status, printed, told = self.upload("--run")
         self.assertEqual((status, printed), (3, AGAIN))
@@ -603,9 +687,11 @@ class Uploads(unittest.TestCase):
 
     def test_what_never_becomes_whole_has_no_verdict(self):
         self.archive.is_whole = lambda _: False
-        status, printed, told = self.upload("--run", "--within", "3")
+        with self.stopped_at(("POST", "/queue/run"), 2) as process:
+            status, printed, told = over(process)
         self.assertEqual((status, printed), (3, NEW))
-        self.assertIn(f"upload: not done within 3 seconds: {CHANGES} has no verdict yet, and lacks 1 file\n", told)
+        why = f"{CHANGES} has no verdict yet, and lacks 1 file"
+        self.assertEqual(told, f"upload: {why}; trying again\nupload: not done within 1000 seconds: {why}\n")
 
     def ready(self):
         """The .changes of an upload that is made ready, so that its bytes are known here."""
@@ -680,9 +766,7 @@ class Uploads(unittest.TestCase):
         """A line that says since when it waits, or that it is whole, is none on what it lacks."""
         self.archive.tells = True
         self.archive.faults["POST", "/queue/run"] = [(403, "", "always")]
-        timer = threading.Timer(3, self.archive.run)
-        timer.start()
-        self.addCleanup(timer.cancel)
+        self.run_after(f"/why/{CHANGES}")
         self.check((0, f"{NEW}accepted {CHANGES}\n"), "--run", told=f"upload: {CHANGES} has no verdict yet; trying again\n")
 
     def test_whoever_may_not_ask_why_goes_by_the_lists(self):
@@ -695,8 +779,8 @@ class Uploads(unittest.TestCase):
                 self.archive.judged.clear()
                 self.archive.verdicts.clear()
                 self.archive.faults["GET", f"/why/{CHANGES}"] = [(status, "<html>", "always")]
-                ran, printed, told = self.upload("--run")
-                self.assertEqual((ran, told), (1, ""))
+                done, printed, told = self.upload("--run")
+                self.assertEqual((done, told), (1, ""))
                 wanted = [f"refused {number} {CHANGES}", *upload.REASONS[number], upload.FINAL]
                 self.assertEqual(printed.splitlines()[len(FILES):], wanted)
 
@@ -733,42 +817,44 @@ class Uploads(unittest.TestCase):
         self.assertEqual(told.count("trying again"), 2)
         for status, text, line in ((401, "", f"refused 401 Unauthorized {CHANGES}"), (422, "Q5\n", f"refused Q5 {CHANGES}")):
             self.archive.faults[path] = [(status, text)]
-            ran, printed, told = self.upload("--run")
-            self.assertEqual((ran, printed.splitlines()[len(FILES)], told), (1, line, ""))
+            done, printed, told = self.upload("--run")
+            self.assertEqual((done, printed.splitlines()[len(FILES)], told), (1, line, ""))
 
     def test_a_name_with_a_plus(self):
         """It goes escaped into the address."""
         self.archive.tells, self.archive.verdict = True, "refused 9"
         self.archive.reasons["refused 9"] = " place\n"
         changes = self.ready().rename(self.room / "ready" / "a+b~1.changes")
-        ran, printed, told = self.upload("--run", changes=str(changes))
+        status, printed, told = self.upload("--run", changes=str(changes))
         wanted = ["refused 9 a+b~1.changes", "place", tool("bin/upload").FINAL]
-        self.assertEqual((ran, printed.splitlines()[-3:], told), (1, wanted, ""))
+        self.assertEqual((status, printed.splitlines()[-3:], told), (1, wanted, ""))
         self.assertEqual(self.archive.requests[-1], ("GET", "/why/a%2Bb~1.changes"))
 
-    def answered(self, pieces, *words):
-        """What the command ends with if the server sends these pieces to each request, and how many requests there were. It has 512 MiB."""
-        server = Answers(pieces)
+    def answers(self, pieces, silent=None):
+        """A server that sends these pieces to each request, but is silent at the one of this number."""
+        server = Answers(pieces, silent)
         self.addCleanup(server.close)
-        line = [sys.executable, TOOL, self.url_of(server.port), self.changes, *words]
-        limit = lambda: resource.setrlimit(resource.RLIMIT_AS, (1 << 29, 1 << 29))
-        ran = subprocess.run(line, capture_output=True, text=True, check=False, timeout=LONG, preexec_fn=limit)
-        return ran.returncode, ran.stdout, ran.stderr, server.count
+        return server
+
+    def limited(self, server, *words):
+        """The line of the command with 512 MiB of memory, for a server."""
+        return ["sh", "-c", 'ulimit -v 524288 && exec "$@"', "sh", *self.line(*words, url=self.url_of(server.port))]
 
     def test_a_reply_that_is_too_long(self):
         """Whatever its head says of its length, no more is read, and there is one request."""
-        head, block = b"HTTP/1.1 200 OK\r\n", bytes(1 << 16)
+        head, block, line = b"HTTP/1.1 200 OK\r\n", bytes(1 << 16), b"Name: " + b"x" * 60_000 + b"\r\n"
         told = "upload: the reply to GET /verdicts has more than 67108864 bytes\n"
         for name, first, rest in (
             ("a length", head + b"Content-Length: 99999999999999\r\n\r\n", block),
             ("no length", head + b"\r\n", block),
             ("a chunk", head + b"Transfer-Encoding: chunked\r\n\r\n7fffffffffffffff\r\n", block),
             ("chunks", head + b"Transfer-Encoding: chunked\r\n\r\n", b"10000\r\n" + block + b"\r\n"),
-            ("a trailer", head + b"Transfer-Encoding: chunked\r\n\r\n0\r\n", b"Name: value\r\n" * 5000),
-            ("an answer before the answer", b"", b"HTTP/1.1 100 Continue\r\n\r\n" * 2000),
+            ("a trailer", head + b"Transfer-Encoding: chunked\r\n\r\n0\r\n", line),
+            ("an answer before the answer", b"", b"HTTP/1.1 100 Continue\r\n" + line + b"\r\n"),
         ):
             with self.subTest(name):
-                self.assertEqual(self.answered(lambda: itertools.chain([first], itertools.repeat(rest)), "--run"), (3, "", told, 1))
+                server = self.answers(lambda: itertools.chain([first], itertools.repeat(rest)))
+                self.assertEqual((*ran(self.limited(server, "--run")), server.count), (3, "", told, 1))
 
     def test_a_reply_that_is_none(self):
         """The request is repeated until the time is over."""
@@ -786,9 +872,12 @@ class Uploads(unittest.TestCase):
             ("a chunk of less than nothing", head + b"Transfer-Encoding: chunked\r\n\r\n-5\r\nnew\n"),
         ):
             with self.subTest(name):
-                status, printed, told, count = self.answered(lambda: [reply], "--within", "1")
-                self.assertEqual((status, printed, count > 1), (3, "", True), told)
-                self.assertRegex(told, r"\A(upload: .*; trying again\n)+upload: not done within 1 seconds: .*\n\Z")
+                server = self.answers(lambda: [reply], silent=2)
+                with running(self.limited(server, "--within", "1000")) as process:
+                    server.is_silent.wait(LONG)
+                    status, printed, told = over(process)
+                self.assertEqual((status, printed, server.count), (3, "", 2), told)
+                self.assertRegex(told, r"\Aupload: (.*); trying again\nupload: not done within 1000 seconds: \1\n\Z")
                 self.assertNotRegex(told, "[\x00-\x09\x0b-\x1f\x7f-\x9f]")
 
     def test_a_reply_that_takes_too_long(self):
@@ -799,9 +888,7 @@ class Uploads(unittest.TestCase):
                 time.sleep(0.2)
                 yield b"N"
 
-        server = Answers(pieces)
-        self.addCleanup(server.close)
-        upload, told = tool("bin/upload"), io.StringIO()
+        server, upload, told = self.answers(pieces), tool("bin/upload"), io.StringIO()
         with unittest.mock.patch.object(upload, "REPLY_SECONDS", 1), contextlib.redirect_stderr(told):
             self.assertEqual(upload.main([self.url_of(server.port), self.changes, "--run"]), 3)
         self.assertEqual((told.getvalue(), server.count), ("upload: the reply to GET /verdicts took more than 1 seconds\n", 1))
@@ -847,29 +934,25 @@ class Uploads(unittest.TestCase):
         self.assertEqual(set(proxy.cuts), {None, "accept", "request", "reply", "answer"})
 
     def test_killed_and_given_again_it_does_no_harm(self):
-        proxy = self.cut()
-        line = [sys.executable, TOOL, self.url_of(proxy.port), self.changes, "--run"]
-        kills = 0
-        for number in range(8):
-            with subprocess.Popen(line, stdout=subprocess.PIPE, stderr=subprocess.DEVNULL, text=True) as process:
-                for _ in range(number):
-                    process.stdout.readline()
-                kills += process.poll() is None
+        """It is killed at each of its requests in turn. Every other one is done only after that, beside those of the next command."""
+        url = self.url_of(self.cut().port)
+        requests = [("GET", "/verdicts"), *(("PUT", f"/incoming/{name}") for name in FILES), ("POST", "/queue/run")]
+        for number, request in enumerate(requests):
+            with self.stopped_at(request, is_done=number % 2 == 1, url=url) as process:
                 process.kill()
-        self.assertEqual(self.upload("--run", url=self.url_of(proxy.port))[0], 0)
-        self.assertGreater(kills, 3)
+                self.assertEqual(process.wait(), -signal.SIGKILL)
+        self.assertEqual(self.upload("--run", url=url)[0], 0)
         self.check_book()
         self.assertEqual(self.archive.verdicts, [f"accepted {CHANGES}\n"])
 
     def test_ended_it_leaves_no_folder(self):
         with socket.create_server(("127.0.0.1", 0)) as silent, tempfile.TemporaryDirectory() as folder:
-            line = [sys.executable, TOOL, self.url_of(silent.getsockname()[1]), self.changes]
-            with subprocess.Popen(line, env={"PATH": "/usr/bin:/bin", "TMPDIR": folder}) as process:
-                connection = silent.accept()[0]
+            silent.settimeout(LONG)
+            line = self.line(url=self.url_of(silent.getsockname()[1]))
+            with running(line, env={"PATH": "/usr/bin:/bin", "TMPDIR": folder}) as process, silent.accept()[0]:
                 self.assertEqual(len(list(pathlib.Path(folder).iterdir())), 1)
                 process.terminate()
-                self.assertEqual(process.wait(LONG), 143)
-                connection.close()
+                self.assertEqual(process.wait(), 143)
             self.assertEqual(list(pathlib.Path(folder).iterdir()), [])
 
 

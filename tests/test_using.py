@@ -18,7 +18,7 @@ HERE = pathlib.Path(__file__).resolve().parent
 
 class Using(snippets.Case):
     def passes(self, *words):
-        ran = subprocess.run(words, capture_output=True, text=True, check=False, timeout=60, env={**os.environ, **self.room.variables})
+        ran = subprocess.run(words, capture_output=True, text=True, check=False, timeout=300, env={**os.environ, **self.room.variables})
         self.assertEqual((ran.returncode, ran.stdout), (0, ""), ran.stderr)
         return ran.stderr
 
@@ -76,6 +76,9 @@ class Using(snippets.Case):
         self.shell(snippet("units of another archive", {"/usr/lib/systemd/system": units, "/etc/systemd/system": units}))
         self.assertIn("\nWorkingDirectory=/srv/tools\n", self.room.read("units/tools.service"))
         self.assertIn("http://127.0.0.1:8081/queue/run", self.room.read("units/tools-queue.service"))
+        self.assertIn("\nSyslogIdentifier=tools-queue\n", self.room.read("units/tools-queue.service"))
+        self.assertIn("\nPathChanged=/srv/tools/www/dists\n", self.room.read("units/tools-sign.path"))
+        self.assertEqual(len(list(pathlib.Path(units).glob("tools*"))), len([it for it in pathlib.Path(units).glob("boqitsel*") if it.is_file()]))
         for path in sorted(pathlib.Path(units).glob("*.*")):
             if path.is_file():
                 self.assertEqual(self.passes("systemd-analyze", "verify", path), "")

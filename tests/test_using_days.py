@@ -1,6 +1,7 @@
 """Tests of docs/USING.md and docs/OPERATING.md with the built program: what an administrator does on some days. A suite gets another name, an uploader
-is let in while clients wait, a suite is emptied or goes back by a whole state, and something goes for good. Each line of the pages is run by a shell as it
-is there. The program is that of program.py. If sqlite3, dpkg-deb or diff is not there, the test says that it was skipped."""
+is let in while clients wait, a suite is emptied or goes back by a whole state, something goes for good, and a later program comes. Each line of the pages
+is run by a shell as it is there. The program is that of program.py. If sqlite3, dpkg-deb, curl or diff is not there, the test says that it was
+skipped."""
 import os
 import pathlib
 import re
@@ -109,7 +110,7 @@ esac
         self.assertEqual(self.room.read("work/systemctl.log").splitlines()[1:], ["stop boqitsel", "start boqitsel"])
         self.assertEqual(self.room.read("work/old.conf"), self.room.read("work/box.conf"))
         # The client that met nobody has gone on.
-        end = time.monotonic() + 100
+        end = time.monotonic() + 300
         while "accepted" not in self.room.read("work/uploaded") and time.monotonic() < end:
             time.sleep(0.1)
         self.assertTrue(self.room.read("work/uploaded").endswith("accepted hello_1.0-1_amd64.changes\n"), self.room.read("work/uploaded"))
@@ -142,6 +143,45 @@ class States(Days):
         self.assertEqual([self.listed(it) for it in ("testing", "stable", "previous")], [after, after, before])
         self.assertEqual(self.shell(snippet("empty", {"lab": "stable"})), gone)
         self.assertEqual([self.listed(it) for it in ("testing", "stable", "previous")], [after, [], before])
+
+
+    @needs("curl")
+    def test_what_differs_between_two_suites_that_are_served(self):
+        self.made_with_three()
+        self.come(package("hello"), package("world"))
+        self.shell(snippet("promote what may go back"))
+        self.come(package("hello", "1.1-1"), package("bad"))
+        printed = self.shell(snippet("what differs", {"127.0.0.1:8080": f"127.0.0.1:{self.serve()}"}))
+        wanted = ["\tbad 1.0-1 amd64 main bad", "\thello 1.1-1 amd64 main hello", "hello 1.0-1 amd64 main hello"]
+        self.assertEqual(sorted(printed.splitlines()), wanted)
+
+
+class Services(Days):
+    """Programs in front of systemctl and runuser do what those would."""
+
+    def test_a_line_is_given_with_the_service_stopped(self):
+        self.made()
+        self.serve()
+        self.room.write("bin/systemctl", f'#!/bin/sh -e\n[ "$*" = "stop boqitsel" ]\nkill {self.process.pid}\n', 0o755)
+        self.room.write("bin/runuser", '#!/bin/sh -e\n[ "$1 $2 $3" = "-u archive --" ]\nshift 3\nexec "$@"\n', 0o755)
+        self.room.write("work/lines", "archive configuration --db box.db\n")
+        stop = snippet("stop", {"/srv/box": self.room.work})
+        self.assertEqual(self.shell(f"{{\n{stop}}} < lines"), snippet("configuration"))
+
+    def test_upgrading_the_package(self):
+        """The service is restarted if the new program opens a copy, and not if it does not."""
+        self.made()
+        self.room.write("bin/systemctl", '#!/bin/sh\necho "$*" >> systemctl.log\n', 0o755)
+        self.room.write("work/install", "#!/bin/sh\n", 0o755)
+        upgrade = snippet("upgrade", {AS_ARCHIVE: "", "apt install ./boqitsel_VERSION_amd64.deb": "./install"})
+        self.assertRegex(self.shell(f"mkdir copies\n{upgrade}"), r"\A(copies/\d{8}T\d{6}Z(-\d+)?/box\.db\n){2}\Z")
+        self.assertEqual(self.room.read("work/systemctl.log"), "daemon-reload\nrestart boqitsel\n")
+        # In the room the program is a link, in place of which comes one that opens nothing.
+        program = f"{self.room.folder}/bin/archive"
+        self.room.write("work/install", f"#!/bin/sh -e\nrm {program}\nln -s /bin/false {program}\n", 0o755)
+        status, printed, _ = self.room.run(upgrade)
+        self.assertEqual((status, printed.count("\n")), (1, 1))
+        self.assertEqual(self.room.read("work/systemctl.log"), "daemon-reload\nrestart boqitsel\n")
 
 
 class Gone(Days):

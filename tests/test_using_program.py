@@ -16,7 +16,7 @@ import time
 
 from tests import snippets
 from tests.ports import free_port
-from tests.program import PROGRAM, mounted, put_of
+from tests.program import LONG, PROGRAM, mounted, put_of
 from tests.snippets import ROOT, built, commands_of, snippet
 from tests.test_configurations import arm64_upload
 from tests.test_upload import Proxy
@@ -89,7 +89,7 @@ class Case(snippets.Case):
 
     def wait_for(self, pattern):
         """Waits for what a server writes after a reply: until this pattern finds it in what programs printed. Answers all of that."""
-        end = time.monotonic() + 60
+        end = time.monotonic() + LONG
         while not re.search(pattern, self.room.read("told")):
             self.assertLess(time.monotonic(), end, self.room.read("told"))
             time.sleep(0.05)
@@ -152,7 +152,7 @@ class Commands(Case):
                 self.room.write("work/moment", f"{last}\n")
             printed = self.shell(f'{snippet("moment")}echo "$at"')
             self.assertEqual(printed, self.room.read("work/moment"))
-            self.assertIn(int(printed) - wanted, range(60))
+            self.assertIn(int(printed) - wanted, range(600))
 
 
 class Rules(Case):
@@ -317,7 +317,7 @@ class Serving(Case):
 
     def done(self, words):
         """Runs the command of a unit, and answers what it prints."""
-        ran = subprocess.run(words, cwd=self.room.work, env=self.room.variables, capture_output=True, text=True, check=False, timeout=60)
+        ran = subprocess.run(words, cwd=self.room.work, env=self.room.variables, capture_output=True, text=True, check=False, timeout=LONG)
         self.assertEqual((ran.returncode, ran.stderr), (0, ""))
         return ran.stdout
 
@@ -356,9 +356,9 @@ class Serving(Case):
         port = self.serve("--log")
         text = snippet("curl", self.at(port))
         paths = self.room.read("work/files").split()
-        self.assertEqual(self.shell(text), "".join(f"{path}: new\n" for path in paths))
-        self.check_quick(self.wait_for(f"(?m)(^\\d+ PUT .*\n){{{len(self.names())}}}"))
-        self.assertEqual(self.shell(text), "".join(f"{path}: again\n" for path in paths))
+        for word in ("new", "again"):
+            self.assertEqual(self.shell(text), "".join(f"{path}: {word}\n" for path in paths))
+        self.check_quick(self.wait_for(f"(?m)(^\\d+ PUT .*\n){{{2 * len(paths)}}}"))
         self.assertEqual(self.shell(snippet("lists", self.at(port))), f"0 {CHANGES}\n")
         said = self.shell(snippet("why by HTTP", self.at(port)))
         self.assertRegex(said, rf"\Awaits {CHANGES} [0-9a-f]{{64}}\n since .* UTC\n whole\n\Z")
@@ -371,8 +371,13 @@ class Serving(Case):
         self.check_log(snippet("log"))
 
     def check_quick(self, log):
-        """Checks that no connection of a log took the second that a client waits which asks first whether it may send."""
-        self.assertLess(max(int(line.split()[5]) for line in log.splitlines()), 1000, log)
+        """Checks that each file of a log came at least once without the second that a client waits which asks first whether it may send: a machine may
+        stall for a second."""
+        seconds = {}
+        for _, method, path, _, _, took in map(str.split, log.splitlines()):
+            if method == "PUT":
+                seconds.setdefault(path, []).append(int(took) / 1000)
+        self.assertEqual([it for it, all_ in seconds.items() if min(all_) >= 1], [], log)
 
     def check_log(self, line):
         """Checks that the log has such a line as the page's, with other numbers."""
@@ -425,12 +430,13 @@ class Serving(Case):
         names = self.names()
         self.spoil()
         self.room.write("work/files", f"ready/{names[0]}\nready/{CHANGES}\nready/{names[1]}\n")
-        text = snippet("curl", self.at(self.serve()))
-        began = time.monotonic()
+        text = snippet("curl", self.at(self.serve("--log")))
         _, printed, told = self.room.run(text)
-        self.assertLess(time.monotonic() - began, 25)
         self.assertEqual(printed, f"ready/{names[0]}: new\nready/{CHANGES}: Q3 C4\n")
         self.assertIn("422", told)
+        # It is not tried again.
+        log = self.wait_for(f"(?m)^\\d+ PUT /incoming/{CHANGES} 422 ")
+        self.assertEqual(re.findall(r"(?m)^\d+ PUT /incoming/(\S+) ", log), [names[0], CHANGES])
 
     def spoil(self):
         """Has the .changes be of another format, which is refused, and be the one file that is uploaded."""
@@ -662,7 +668,7 @@ class Copies(Case):
 
     def asked(self, port, request):
         """The status that is answered."""
-        with socket.create_connection(("127.0.0.1", port), timeout=60) as it:
+        with socket.create_connection(("127.0.0.1", port), timeout=LONG) as it:
             it.sendall(request)
             return int(it.makefile("rb").readline().split()[1])
 
@@ -682,11 +688,11 @@ class Copies(Case):
             yield answered
         finally:
             ended.set()
-            thread.join(60)
+            thread.join(LONG)
 
     def is_one(self, answered):
         """Waits until something is answered, and says whether it is."""
-        end = time.monotonic() + 60
+        end = time.monotonic() + LONG
         while not answered and time.monotonic() < end:
             time.sleep(0.01)
         return bool(answered)
@@ -701,7 +707,7 @@ class Copies(Case):
                 time.sleep(0.3)
                 counts.append(len(answered))
                 # Copies of one second need folders of their own.
-                self.shell(snippet("copy", {"$(date +%s)": f"{number}", "sleep 1": "sleep 0.3"}))
+                self.shell(snippet("copy", {"$(date +%s)": f"{number}"}))
         self.assertGreater(counts[-1], counts[0])
         for number, count in enumerate(counts):
             copy = f"copy=copies/{number}; "
@@ -816,7 +822,7 @@ class Refusals(Case):
             os.chmod(f"{self.room.work}/box.db", mode)
             os.chmod(self.room.work, folder)
             words = [f"{self.room.folder}/copy", "verdicts", "--db", "box.db"]
-            ran = subprocess.run(words, cwd=self.room.work, user=65534, group=65534, capture_output=True, text=True, check=False, timeout=60)
+            ran = subprocess.run(words, cwd=self.room.work, user=65534, group=65534, capture_output=True, text=True, check=False, timeout=LONG)
             self.assertEqual((ran.returncode, ran.stdout, ran.stderr), (3, "", "archive: K2\n"), (mode, folder))
 
     def test_a_full_disk(self):

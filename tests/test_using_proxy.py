@@ -127,22 +127,20 @@ class Proxy(unittest.TestCase):
         self.site.queue()
         self.assertEqual(self.site.sure(f"curl -sS {login} {self.site.url}/verdicts"), "accepted hello_1.0-1_amd64.changes\n")
 
-    def one_command(self, package, distribution="box"):
-        """Runs the page's command with a login. Its upload is of this package and for this distribution."""
+    def one_command(self, package, distribution="box", before=""):
+        """Runs the page's command with a login. Its upload is of this package and for this distribution. A line of shell may come before it."""
         changes = pathlib.Path(built(self.site.folder, package))
         changes.write_text(snippets.changed(changes.read_text(), {"Distribution: box": f"Distribution: {distribution}"}))
         self.site.write("home/.archive-login", f"ann:{PASSWORD}\n", 0o600)
         text = snippet("upload with a login", {"https://archive.example.org": self.site.url, "../hello_1.0-1_amd64.changes": str(changes)})
-        return self.site.run(text)
+        return self.site.run(before + text)
 
     @needs("htpasswd")
     def test_uploading_in_one_command_with_a_login(self):
         """It asks for the run itself, and why an upload is refused."""
         self.site.log_in()
-        start = time.monotonic()
         status, printed, told = self.one_command(HELLO)
         self.assertEqual((status, printed.splitlines()[-1], told), (0, "accepted hello_1.0-1_amd64.changes", ""))
-        self.assertLess(time.monotonic() - start, 10)
         status, printed, told = self.one_command(uploads.Package("world"), "UNRELEASED")
         lines = printed.splitlines()
         self.assertEqual((status, told), (1, ""))
@@ -152,6 +150,13 @@ class Proxy(unittest.TestCase):
         status, printed, told = self.one_command(HELLO)
         self.assertEqual((status, printed.splitlines()), (1, ["refused 401 Unauthorized verdicts", "Give --login USER:PASSWORD, or another one."]), told)
 
+    def queue_once_said(self, text):
+        """Runs the queue once a text is in the file `said`."""
+        end = time.monotonic() + 300
+        while text not in self.site.read("work/said") and time.monotonic() < end:
+            time.sleep(0.1)
+        self.site.queue()
+
     def test_uploading_by_a_proxy_that_lets_nobody_ask_for_a_run_or_why(self):
         """The command waits for the run of the timer, and goes by the lists."""
         self.site.write("uploaders", f"ann:{{PLAIN}}{PASSWORD}\n")
@@ -160,12 +165,14 @@ class Proxy(unittest.TestCase):
         self.site.start(["nginx", "-c", self.site.proxy(text, port, self.site.behind)], port=port)
         self.site.url = f"https://localhost:{port}"
         for package, distribution, wanted in ((HELLO, "box", (0, "accepted")), (uploads.Package("world"), "UNRELEASED", (1, "refused 1"))):
-            timer = threading.Timer(5, self.site.queue)
+            self.site.write("work/said", "")
+            timer = threading.Thread(target=self.queue_once_said, args=["has no verdict yet; trying again\n"], daemon=True)
             timer.start()
-            self.addCleanup(timer.cancel)
-            status, printed, told = self.one_command(package, distribution)
-            self.assertEqual((status, f"{wanted[1]} {package.name}_1.0-1_amd64.changes" in printed.splitlines()), (wanted[0], True), told)
-            self.assertIn("has no verdict yet; trying again\n", told)
+            status, printed, _ = self.one_command(package, distribution, "exec 2>> said\n")
+            timer.join()
+            said = self.site.read("work/said")
+            self.assertEqual((status, f"{wanted[1]} {package.name}_1.0-1_amd64.changes" in printed.splitlines()), (wanted[0], True), said)
+            self.assertIn("has no verdict yet; trying again\n", said)
 
     def test_what_those_with_a_login_may_ask(self):
         """All of it is 401 without the login, and nothing of it takes another method."""

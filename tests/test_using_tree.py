@@ -146,7 +146,7 @@ class Case(snippets.Case):
 class Nginx(Case):
     def connected(self, port):
         context = ssl.create_default_context(cafile=self.room.certificate()[0])
-        connection = http.client.HTTPSConnection("localhost", port, timeout=20, context=context)
+        connection = http.client.HTTPSConnection("localhost", port, timeout=120, context=context)
         self.addCleanup(connection.close)
         connection.connect()
         return connection

@@ -235,7 +235,7 @@ class Exported(Tree):
     def test_a_browser_runs_the_script_and_nothing_else(self):
         self.export()
         words = ["--headless", "--no-sandbox", "--disable-gpu", f"--user-data-dir={self.room}/browser", "--dump-dom"]
-        ran = subprocess.run([BROWSER, *words, f"file://{self.tree}/index.html"], capture_output=True, text=True, check=True, timeout=120)
+        ran = subprocess.run([BROWSER, *words, f"file://{self.tree}/index.html"], capture_output=True, text=True, check=True, timeout=300)
         page = Page(ran.stdout.strip())
         self.assertEqual(page.of("title"), ["Suites"])
         self.assertIn(HOSTILE, page.of("p"))
@@ -245,7 +245,7 @@ class Exported(Tree):
     def test_a_browser_shows_the_filter(self):
         self.export()
         words = ["--headless", "--no-sandbox", "--disable-gpu", f"--user-data-dir={self.room}/browser", "--dump-dom"]
-        ran = subprocess.run([BROWSER, *words, f"file://{self.tree}/dists/box/index.html"], capture_output=True, text=True, check=True, timeout=120)
+        ran = subprocess.run([BROWSER, *words, f"file://{self.tree}/dists/box/index.html"], capture_output=True, text=True, check=True, timeout=300)
         fields = [attrs for tag, attrs in Page(ran.stdout.strip()).elements if tag == "input"]
         self.assertEqual(fields, [{"type": "search", "placeholder": "Filter", "aria-label": "Filter"}])
 

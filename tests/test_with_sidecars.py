@@ -29,7 +29,7 @@ from uploads import uploads
 
 TOOL = f"{ROOT}/bin/with_sidecars"
 # How long a test waits for what should come, in seconds, and how much memory with_sidecars gets.
-LONG, MEMORY = 120, 1 << 28
+LONG, MEMORY = 300, 1 << 28
 # What is said below a file that an archive may take all the same.
 HINT = ": give --most, if MaxFileSize of the archive is larger"
 UMASK = os.umask(0)
@@ -576,7 +576,7 @@ class Uploads(unittest.TestCase):
         (self.room / "dpkg-deb").write_text(f"#!/bin/sh\ntouch {self.room}/began\nread line < {self.room}/waits\n")
         (self.room / "dpkg-deb").chmod(0o755)
         with subprocess.Popen([sys.executable, TOOL, changes, self.ready], env={"PATH": f"{self.room}:/usr/bin:/bin"}, stderr=subprocess.PIPE) as process:
-            while not (self.room / "began").exists():
+            while process.poll() is None and not (self.room / "began").exists():
                 time.sleep(0.01)
             process.terminate()
             self.assertEqual((process.wait(LONG), process.stderr.read()), (143, b""))
