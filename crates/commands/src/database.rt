@@ -69,23 +69,23 @@ fn is_same(one: &Metadata, other: &Metadata) -> bool {
     one.dev() == other.dev() && one.ino() == other.ino()
 }
 
-/// Whether two paths lead to one file.
-fn is_one_file<R: Files>(rt: &R, one: &str, other: &str) -> bool {
-    match (fs::metadata(rt, one), fs::metadata(rt, other)) {
-        (Ok(one), Ok(other)) => is_same(&one, &other),
-        _ => false,
+/// Whether a path leads to the file that was looked up.
+fn leads_to<R: Files>(rt: &R, path: &str, found: &Metadata) -> bool {
+    match fs::metadata(rt, path) {
+        Ok(named) => is_same(&named, found),
+        Err(_) => false,
     }
 }
 
-/// Whether a path leads to the file beside a database whose name has this ending.
+/// Whether the file that was looked up is the one beside a database whose name has this ending.
 fn is_beside<R: Files + AllocGlobal>(
     rt: &R,
     db: &str,
     end: &str,
-    path: &str,
+    found: &Metadata,
 ) -> Result<bool, AllocError> {
     let own = format!(in rt.alloc(); "{db}{end}")?;
-    Ok(is_one_file(rt, own.as_str(), path))
+    Ok(leads_to(rt, own.as_str(), found))
 }
 
 /// Whether a path leads to the file of a database, or to a file that SQLite keeps beside it.
@@ -94,8 +94,11 @@ pub fn is_of_database<R: Files + AllocGlobal>(
     db: &str,
     path: &str,
 ) -> Result<bool, AllocError> {
+    let Ok(found) = fs::metadata(rt, path) else {
+        return Ok(false);
+    };
     for end in ["", "-wal", "-journal", "-shm"] {
-        if is_beside(rt, db, end, path)? {
+        if is_beside(rt, db, end, &found)? {
             return Ok(true);
         }
     }
