@@ -3,7 +3,7 @@
 //!
 //! While the older file is copied, SQLite's lock of readers keeps out whoever writes it.
 
-use crate::database::{BETWEEN_TRIES, TRIES};
+use crate::connecting::{BETWEEN_TRIES, TRIES};
 use keep::KeepFault;
 use os::RangeLock;
 use sqlite::Files;
