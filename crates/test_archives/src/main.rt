@@ -5,20 +5,13 @@
 //! read, and none differs; 3 if the output fails; otherwise it is 1.
 #![tactic(auto)]
 
-mod disks;
-mod growths;
-mod keepers;
-mod moves;
-
-use crate::disks::Case;
-use crate::growths::Marked;
-use crate::keepers::Lists;
-use crate::moves::Moves;
 use keep::PlainKeeper;
 use sqlite::MemStore;
 use std::io;
 use std::process::ExitCode;
 use std::rt::{Env, Files};
+use test_disks::Case;
+use test_growths::{Lists, Marked, Moves};
 use test_rows::{Answers, report_files};
 
 /// Stories over plain keepers, and calls of them.

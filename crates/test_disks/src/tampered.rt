@@ -1,8 +1,8 @@
 //! Databases that are no archive, or no databases.
 
-use crate::disks::image::Image;
-use crate::disks::trial::{SOUND, done};
-use crate::disks::work::{Work, word_or_fault};
+use crate::image::Image;
+use crate::trial::{SOUND, done};
+use crate::work::{Work, word_or_fault};
 use std::alloc::Global;
 use test_rows::{Unread, number_of, said, text_of};
 use test_story::Task;

@@ -1,9 +1,9 @@
 //! Work with a database in two files in memory, one of which may stop, fail or be full. Before and after it the files are plain bytes, so
 //! that few functions name a disk, and fewer the store of files.
 
-use crate::disks::failing::{Failing, Kind};
-use crate::disks::image::Image;
-use crate::disks::work::{Answer, Work};
+use crate::failing::{Failing, Kind};
+use crate::image::Image;
+use crate::work::{Answer, Work};
 use keep::KeepFault;
 use keep_tables::fault_of;
 use old_book::OldBook;

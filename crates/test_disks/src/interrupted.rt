@@ -1,11 +1,11 @@
 //! A step that is done while a disk stops, fails or is full.
 
-use crate::disks::account::{are_refused, is_answer, is_like};
-use crate::disks::failing::Kind;
-use crate::disks::image::Image;
-use crate::disks::steps::{Step, paths_of, told_of};
-use crate::disks::trial::{Left, Plan, SOUND, done};
-use crate::disks::work::{Work, told_fault};
+use crate::account::{are_refused, is_answer, is_like};
+use crate::failing::Kind;
+use crate::image::Image;
+use crate::steps::{Step, paths_of, told_of};
+use crate::trial::{Left, Plan, SOUND, done};
+use crate::work::{Work, told_fault};
 use keep::KeepFault;
 use std::alloc::Global;
 use test_rows::{Unread, said};

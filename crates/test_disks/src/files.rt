@@ -1,12 +1,12 @@
 //! An archive in files in memory, and the questions to it.
 
-use crate::disks::failing::Kind;
-use crate::disks::image::Image;
-use crate::disks::interrupted::interrupted;
-use crate::disks::steps::{Step, paths_of};
-use crate::disks::tampered::{changed, front, opening, opening_of, tampered, without_end};
-use crate::disks::trial::{Left, Plan, SOUND, Which, done, old_of};
-use crate::disks::work::{Work, told_fault, word_or_fault};
+use crate::failing::Kind;
+use crate::image::Image;
+use crate::interrupted::interrupted;
+use crate::steps::{Step, paths_of};
+use crate::tampered::{changed, front, opening, opening_of, tampered, without_end};
+use crate::trial::{Left, Plan, SOUND, Which, done, old_of};
+use crate::work::{Work, told_fault, word_or_fault};
 use keep::KeepFault;
 use old_book::OldBook;
 use std::alloc::Global;

@@ -1,8 +1,8 @@
 //! Steps of a story, and what files show of a step.
 
-use crate::disks::image::Image;
-use crate::disks::trial::{SOUND, done};
-use crate::disks::work::{Making, Work, told_fault};
+use crate::image::Image;
+use crate::trial::{SOUND, done};
+use crate::work::{Making, Work, told_fault};
 use keep::{KeepFault, LATEST};
 use old_book::OldBook;
 use rules::Config;
