@@ -8,6 +8,7 @@ Packages, and the file of 200 KB, with a new connection for each request, as `se
 (--clients): replies a second, and the time within which 99 of 100 replies came. Then comes the most memory that `serve` held.
 A peer that is not installed is left out.
 """
+import contextlib
 import os
 import pathlib
 import re
@@ -65,12 +66,20 @@ def nginx(folder, tree):
     return measure.Server([program, "-c", str(own.absolute() / "conf")], port)
 
 
-def servers(way, folder):
-    """The servers, by their titles."""
-    tree = folder / "www"
+def peers(folder, tree):
+    """The servers of a tree, by their titles."""
     python = measure.Server([sys.executable, "-m", "http.server", "{port}", "--bind", "127.0.0.1", "--directory", str(tree)])
-    found = {"archive": way.server, "http.server": python, "nginx over an export": nginx(folder, tree)}
+    found = {"http.server": python, "nginx over an export": nginx(folder, tree)}
     return {title: server for title, server in found.items() if server}
+
+
+def of_archive(way, path, clients, seconds, peaks):
+    """What wrk says of requests to the archive, which is served anew. The most memory that it held goes to a list."""
+    way.serve()
+    said = asked(way.server.port, path, clients, seconds)
+    peaks.append(way.server.so_far().peak)
+    way.close()
+    return said
 
 
 def main():
@@ -81,22 +90,21 @@ def main():
     line = words.parse_args()
     if not shutil.which("wrk"):
         measure.stop("wrk is not installed")
-    folder = pathlib.Path(line.folder)
+    folder, peaks = pathlib.Path(line.folder), []
     folder.mkdir()
     way, pool = filled(line.archive, str(folder), line.packages)
-    try:
-        way.close()
-        measure.line([line.archive, "export", "--db", way.db, str(folder / "www")])
-        way.serve()
-        found = servers(way, folder)
-        for server in [*found.values()][1:]:
-            way.ending.enter_context(server)
+    way.close()
+    measure.line([line.archive, "export", "--db", way.db, str(folder / "www")])
+    files = {"Release": RELEASE, "Packages": PACKAGES, "a file of 200 KB": pool}
+    with contextlib.ExitStack() as stack:
+        found = {title: stack.enter_context(server) for title, server in peers(folder, folder / "www").items()}
         for clients in line.clients:
-            rows = [[what, *(asked(server.port, path, clients, line.seconds) for server in found.values())] for what, path in (("Release", RELEASE), ("Packages", PACKAGES), ("a file of 200 KB", pool))]
-            print(f"{clients} clients:\n\n{measure.table(['What', *found], rows)}\n", flush=True)
-        print(f"The most memory of serve: {measure.figure(way.server.so_far().peak / 1024)} MiB.")
-    finally:
-        way.close()
+            rows = []
+            for what, path in files.items():
+                theirs = [asked(server.port, path, clients, line.seconds) for server in found.values()]
+                rows.append([what, of_archive(way, path, clients, line.seconds, peaks), *theirs])
+            print(f"{clients} clients:\n\n{measure.table(['What', 'archive', *found], rows)}\n", flush=True)
+    print(f"The most memory of serve: {measure.figure(max(peaks) / 1024)} MiB.")
 
 
 if __name__ == "__main__":

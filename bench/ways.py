@@ -143,15 +143,13 @@ class Served(Lines):
     title = "archive, by HTTP"
     opens_each_time = False
     takes_lists = False
-    # The number of connections after which the server ends.
-    MOST = 1_000_000_000
 
     def __init__(self, program, folder):
         super().__init__(program, folder)
         self.ending = contextlib.ExitStack()
 
     def serve(self):
-        words = [self.program, "serve", "--db", self.db, "--at", "0", "127.0.0.1:{port}", str(self.MOST)]
+        words = [self.program, "serve", "--db", self.db, "--at", "0", "127.0.0.1:{port}", "1000000"]
         self.server = self.ending.enter_context(measure.Server(words))
 
     def make(self):
