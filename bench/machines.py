@@ -20,7 +20,7 @@ from bench import measure, ways
 from tests.ports import free_port
 from uploads import uploads
 
-NGINX = """daemon off; pid {folder}/pid; error_log {folder}/errors; events {{}}
+NGINX = """{user}daemon off; pid {folder}/pid; error_log {folder}/errors; events {{}}
 http {{
 access_log off; sendfile on; client_body_temp_path {folder}/body; proxy_temp_path {folder}/proxy;
 fastcgi_temp_path {folder}/fastcgi; uwsgi_temp_path {folder}/uwsgi; scgi_temp_path {folder}/scgi;
@@ -62,7 +62,8 @@ def nginx(folder, tree):
         return None
     port, own = free_port(), folder / "nginx"
     own.mkdir()
-    (own / "conf").write_text(NGINX.format(folder=own.absolute(), port=port, tree=tree.absolute()))
+    user = "user root; " if os.geteuid() == 0 else ""
+    (own / "conf").write_text(NGINX.format(user=user, folder=own.absolute(), port=port, tree=tree.absolute()))
     return measure.Server([program, "-c", str(own.absolute() / "conf")], port)
 
 
