@@ -144,7 +144,6 @@ class States(Days):
         self.assertEqual(self.shell(snippet("empty", {"lab": "stable"})), gone)
         self.assertEqual([self.listed(it) for it in ("testing", "stable", "previous")], [after, [], before])
 
-
     @needs("curl")
     def test_what_differs_between_two_suites_that_are_served(self):
         self.made_with_three()
