@@ -10,10 +10,10 @@ use Rattle.sums.specs.declared.entries.Entry.{Entry}
 use Rattle.suites.specs.Upload.{has_suffix, stem}
 use Rattle.suites.specs.Verdict.{are_among, differs_from_dsc, dsc_file, has_bad_listing, has_entry, has_source, have_twins, is_package_part, is_same_package, names_of, names_with, stems}
 use Rattle.std.specs.Str.{bytes_eq}
-use Rattle.suites.proofs.ListTests.{list_all-filter_not}
+use Rattle.suites.proofs.ListTests.{list_all-filter_not, same_any, not_either}
 use Rattle.suites.proofs.Stems.{counted, paired}
 use Rattle.reasons.specs.Named.{is_lone, is_unlisted, lacks_dsc, listed_changes, listed_part, lone_file, source_file, surplus_dsc, beside, twins, unlisted_file}
-use Rattle.reasons.proofs.Searches.{counted_where, found_where, not_all, not_either, not_unless, same_any}
+use Rattle.reasons.proofs.Searches.{counted_where, found_where, not_all, not_unless}
 
 -- the number of listed files is not the one that is wanted, which is one or none
 off_by : (s : Bool) (xs : List Entry) → not (length xs == (if s then 1 else 0)) ≡ (is_some (slice_get xs (if s then 1 else 0)) || (s && not (nat_lt 0 (length xs))))

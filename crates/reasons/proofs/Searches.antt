@@ -3,8 +3,8 @@ use Rattle.std.proofs.Common.{◌≡◌, ℕ, suc, ◌+◌, ◌<◌, Bool, true,
 use Rattle.std.specs.Prelude.{find, is_some, nat_lt}
 use Rattle.std.specs.List.{list_any, list_all}
 use Rattle.std.specs.Option.{option_or}
-use Rattle.std.proofs.lemmas.Bool.Decides.{nat_tests}
 use Rattle.std.proofs.lemmas.List.{drop_more}
+use Rattle.std.proofs.lemmas.Bool.{lt-ltb}
 use Rattle.reasons.specs.Named.{first_some}
 
 pub found_where : {X : Type 0} (p : X → Bool) (xs : List X) → list_any p xs ≡ is_some (find p xs)
@@ -20,11 +20,8 @@ pub counted_where : {X : Type 0} (p : X → Bool) (xs : List X) → nat_lt 0 (le
 counted_where p [] = refl
 counted_where p (x ∷ xs) = by_case (p x) (counted_where p xs)
   where
-    some : (n : ℕ) → nat_lt 0 (suc n) ≡ true
-    some n = grind (arith, nat_tests)
-
     by_case : (b : Bool) → nat_lt 0 (length (filter p xs)) ≡ list_any p xs → nat_lt 0 (length (cond b (x ∷ filter p xs) (filter p xs))) ≡ (b || list_any p xs)
-    by_case true more = some (length (filter p xs))
+    by_case true more = (lt-ltb 0 (suc (length (filter p xs))) (omega arith))
     by_case false more = more
 
 -- not all pass if and only if one does not
@@ -36,16 +33,9 @@ not_all p (x ∷ xs) = by_case (p x) (not_all p xs)
     by_case true more = more
     by_case false more = refl
 
-pub not_either : (a b : Bool) → not (a || b) ≡ (not a && not b)
-not_either true b = refl
-not_either false b = refl
-
 pub not_unless : (a b : Bool) → not (not a || b) ≡ (a && not b)
 not_unless true b = refl
 not_unless false b = refl
-
-pub same_any : {X : Type 0} (p q : X → Bool) → ((x : X) → p x ≡ q x) → (xs : List X) → list_any p xs ≡ list_any q xs
-same_any p q h xs = ap (λ t. list_any t xs) (λ i x. h x i)
 
 -- what is found of the first of the rest
 pub found_at : {X P Y : Type 0} (h : P → Option Y) (v : X → P) (xs : List X) (i : ℕ) (x : X) (y : Y) → i < length xs → x ≡ get_or xs i x → h (v x) ≡ Some y

@@ -1,19 +1,17 @@
 //! What the other verdicts are about: an architecture of the .changes, or a file that it or its .dsc lists.
 
 ghost use Rattle.std.specs.Prelude.{◌≡◌, not, bytes_eq, IfOk, option_copied};
-ghost use Rattle.std.specs.FinMap.{get};
 ghost use Rattle.rules.specs.Judgement.{component};
 ghost use Rattle.rules.specs.Suites.{component_of};
-ghost use Rattle.suites.specs.Shelves.{pool};
-ghost use Rattle.suites.specs.Verdict.{by_print, is_missing_file, is_taken, path_of};
+ghost use Rattle.suites.specs.Verdict.{path_of};
 ghost use Rattle.reasons.specs.Named.{foreign_architecture, is_unlisted, listed_part, missing_file, other_component, taken_entry, unlisted_file};
 
 use para::Text;
 use records::{Changes, Dsc};
 use rules::{Suite, component_of_section};
 use std::alloc::{AllocError, Global};
-use suites::{Shelves, directory, entry_named, has_suffix, is_package_part, lists};
-use sums::{Entry, Print};
+use suites::{Shelves, is_missing, is_package_part, is_taken, lists};
+use sums::Entry;
 
 /// Verdict 2: the first architecture of a .changes that the suite does not keep.
 pub fn foreign_architecture<'a>(suite: &Suite, changes: &'a Changes) -> Option<&'a Text>
@@ -75,46 +73,12 @@ pub fn unlisted_file<'a>(changes: &'a Changes, dsc: &Dsc) -> Option<&'a Entry>
 }
 
 /// The path of an entry's file in the pool.
-#[tactic(auto, unfolding(suites::specs::Pool::pool_path))]
 pub fn pool_path(alloc: Global, changes: &Changes, entry: &Entry) -> Result<Text, AllocError>
     ensures { IfOk result (λ path. path ≡ path_of changes.now entry.now) }
 {
-    let folder = directory(alloc, component(changes), changes.source())?;
-    let (folder, name) = (folder.as_str(), entry.name.as_str());
-    let path = format!(in alloc; "{folder}/{name}")?;
+    let (component, name) = (component(changes), entry.name.as_str());
+    let path = suites::pool_path(alloc, component, changes.source(), name)?;
     Ok(Text::from_string(path))
-}
-
-/// The print of what the pool holds at the path of an entry's file.
-fn print_in_pool(
-    alloc: Global,
-    shelves: &Shelves,
-    changes: &Changes,
-    entry: &Entry,
-) -> Result<Option<Print>, AllocError>
-    ensures { IfOk result (λ found. found ≡ get (pool shelves.now) (path_of changes.now entry.now)) }
-{
-    let path = pool_path(alloc, changes, entry)?;
-    Ok(shelves.file(path.as_str()))
-}
-
-/// Whether a file that the .dsc lists is neither in the .changes nor in the pool, at its path with that print.
-#[tactic(auto, unfolding(suites::specs::Verdict::is_missing_file))]
-fn is_missing(
-    alloc: Global,
-    shelves: &Shelves,
-    changes: &Changes,
-    entry: &Entry,
-) -> Result<bool, AllocError>
-    ensures { IfOk result (λ missing. missing ≡ is_missing_file by_print (pool shelves.now) changes.now entry.now) }
-{
-    if entry_named(changes.entries(), entry.name.as_str()).is_some() {
-        return Ok(false);
-    }
-    match print_in_pool(alloc, shelves, changes, entry)? {
-        Some(print) => Ok(print != entry.print),
-        None => Ok(true),
-    }
 }
 
 /// Verdict 8: the first file of the .dsc that is neither in the .changes nor in the pool, at its path with that print.
@@ -126,31 +90,13 @@ pub fn missing_file<'a>(
 ) -> Result<Option<&'a Entry>, AllocError>
     ensures { IfOk result (λ found. option_copied found ≡ missing_file shelves.now changes.now dsc.now) }
 {
+    let component = component(changes);
     for entry in dsc.entries() {
-        if is_missing(alloc, shelves, changes, entry)? {
+        if is_missing(alloc, component, shelves, changes, entry)? {
             return Ok(Some(entry));
         }
     }
     Ok(None)
-}
-
-/// Whether the pool holds other contents at the path of an entry's file.
-#[tactic(auto, unfolding(suites::specs::Verdict::is_taken))]
-fn is_taken(
-    alloc: Global,
-    shelves: &Shelves,
-    changes: &Changes,
-    entry: &Entry,
-) -> Result<bool, AllocError>
-    ensures { IfOk result (λ taken. taken ≡ is_taken by_print (pool shelves.now) changes.now entry.now) }
-{
-    if has_suffix(entry.name.as_str(), ".control") {
-        return Ok(false);
-    }
-    match print_in_pool(alloc, shelves, changes, entry)? {
-        Some(print) => Ok(print != entry.print),
-        None => Ok(false),
-    }
 }
 
 /// Verdict 9: the first listed file whose path in the pool has other contents.
@@ -161,8 +107,9 @@ pub fn taken_entry<'a>(
 ) -> Result<Option<&'a Entry>, AllocError>
     ensures { IfOk result (λ found. option_copied found ≡ taken_entry shelves.now changes.now) }
 {
+    let component = component(changes);
     for entry in changes.entries() {
-        if is_taken(alloc, shelves, changes, entry)? {
+        if is_taken(alloc, component, shelves, changes, entry)? {
             return Ok(Some(entry));
         }
     }

@@ -26,5 +26,6 @@ pub use laws::{
 pub use listing::{
     lacks_dsc, listed_changes, lone_package, lone_sidecar, source_file, surplus_dsc,
 };
+pub use naming::suite_of;
 pub use sidecars::twins;
 pub use why::reason_of;

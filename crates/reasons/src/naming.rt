@@ -19,7 +19,7 @@ use sums::Entry;
 
 /// The suite that claims the distribution of a .changes.
 #[tactic(auto, unfolding(rules::specs::Judgement::suite_of))]
-fn suite_of<'a>(config: &'a Config, changes: &Changes) -> Option<&'a Suite>
+pub fn suite_of<'a>(config: &'a Config, changes: &Changes) -> Option<&'a Suite>
     ensures { option_copied result ≡ suite_of config.now changes.now }
 {
     let position = config.suite_for(changes.distribution())?;

@@ -9,6 +9,7 @@ use Rattle.std.proofs.lemmas.Bool.Decides.{nat_tests, leb_tells}
 use Rattle.std.proofs.lemmas.List.Folds.{list_all_at}
 use Rattle.jiff_core.specs.Calendar.{days_in_year, days_in_month, days_of_months, day_count}
 use Rattle.std.proofs.lemmas.List.FromFn.{length-range_with_len, get_or-range_with_len}
+use Rattle.std.proofs.lemmas.Bool.{lt-ltb}
 use Rattle.jiff_core.specs.Date.{epoch_day}
 use Rattle.jiff_core.specs.DateTime.{civil_nanos}
 use Rattle.jiff_core.specs.declared.civil.datetime.DateTime.{DateTime}
@@ -17,10 +18,7 @@ use Rattle.jiff_core.specs.declared.civil.date.Date.{Date}
 use Rattle.jiff_core.proofs.CalendarLemmas.{day_count-epoch, days_from_civil-day_count, day_count-day_of_year, day_count-next_year, day_count-later_year, day_count-lt_year, day_of_year_bound, days_in_month_bounds}
 use Rattle.jiff_core.proofs.DateLemmas.{civil}
 use Rattle.jiff_core.proofs.SignedLemmas.{signed_arith, back_small}
-use Rattle.texts.specs.Calendar.{is_leap, year_length, month_lengths, year_and_day, month_and_day, year_of, month_of, day_of, two_digits}
-
-less : (a b : ℕ) → a < b → nat_lt a b ≡ true
-less a b h = grind (arith, nat_tests)
+use Rattle.indices.specs.Calendar.{is_leap, year_length, month_lengths, year_and_day, month_and_day, year_of, month_of, day_of, two_digits}
 
 not_less : (a b : ℕ) → b ≤ a → nat_lt a b ≡ false
 not_less a b h = grind (arith, nat_tests)
@@ -71,7 +69,7 @@ walk (suc most) start year day place few low e h = elim (leb_tells year start) [
       let count = ap first_day same in
       let lengths = ap year_length same in
       let here : day ≡ place = omega arith in
-      year_here most start day (less day (year_length start) (omega arith)) ∙ pair same here
+      year_here most start day (lt-ltb day (year_length start) (omega arith)) ∙ pair same here
   | inr above ↦
       let later = later_year start year above.1 in
       let more = above.1 in
@@ -103,7 +101,7 @@ walk_months : (ls : List ℕ) (month day place : ℕ) → month < length ls → 
 walk_months [] month day place k h e = absurd (omega arith)
 walk_months (l ∷ ls) zero day place k h e =
     let same : day ≡ place = omega arith in
-    month_here l ls day (less day l (omega arith)) ∙ pair refl same
+    month_here l ls day (lt-ltb day l (omega arith)) ∙ pair refl same
 walk_months (l ∷ ls) (suc month) day place k h e =
     let all : sum (take (suc month) (l ∷ ls)) ≡ l + sum (take month ls) = sum-cons l (take month ls) in
     let rest = walk_months ls month (day - l) place (omega arith) h (omega arith) in
@@ -190,7 +188,7 @@ natural (negsuc n) h = absurd (h (omega (arith, signed_arith)))
 -- no day number from 0 on is that of a date before 1970
 not_before : (d : Date) (day : ℕ) → epoch_day d ≡ pos day → (d.year <ℤ pos 1970) → ⊥
 not_before d day e h =
-    let less = day_count-lt_year d.year d.month d.day (pos 1970) 1 1 (civil d) (omega arith) h in
+    let lt-ltb = day_count-lt_year d.year d.month d.day (pos 1970) 1 1 (civil d) (omega arith) h in
     let count = days_from_civil-day_count d.year d.month d.day in
     let epoch : first_day 1970 ≡ 4_371_953 = day_count-epoch in
     absurd (omega (arith, signed_arith))

@@ -17,10 +17,10 @@ use Rattle.suites.specs.Items.{item_of}
 use Rattle.suites.specs.Upload.{items_of, parts_with, has_suffix, entry_named, package_file}
 use Rattle.suites.specs.declared.item.Item.{Item}
 use Rattle.sums.specs.Lists.{unhexed, lists_within}
-use Rattle.texts.specs.Calendar.{date_text, day_text, time_text, year_of, month_of, day_of, year_and_day, month_and_day, weekday_name, month_name}
-use Rattle.texts.specs.Stanzas.{fields_of_text, file_fields, package_fields, package_stanza}
-use Rattle.texts.specs.Release.{release_text, suite_fields, valid_until, index_lists, index_list, optional_field, architectures_text, index_path}
-use Rattle.texts.specs.declared.index.Index.{Index}
+use Rattle.indices.specs.Calendar.{date_text, day_text, time_text, year_of, month_of, day_of, year_and_day, month_and_day, weekday_name, month_name}
+use Rattle.indices.specs.Stanzas.{fields_of_text, file_fields, package_fields, package_stanza}
+use Rattle.indices.specs.Release.{release_text, suite_fields, valid_until, index_lists, index_list, optional_field, architectures_text, index_path}
+use Rattle.indices.specs.declared.index.Index.{Index}
 
 -- the first seconds of some days, and the last of others
 pub epoch : date_text 0 ≡ codes "Thu, 01 Jan 1970 00:00:00 UTC"

@@ -4,7 +4,7 @@ use Rattle.std.specs.List.{join_with_byte}
 use Rattle.std.proofs.lemmas.List.{append-nil}
 use Rattle.std.proofs.lemmas.List.Elements.{filter-append}
 use Rattle.para.specs.Bytes.{is_nil}
-use Rattle.texts.specs.Release.{is_source}
+use Rattle.indices.specs.Release.{is_source}
 
 -- what is put after the names
 abbrev pub behind : Bool → List ℕ → List ℕ

@@ -1,11 +1,5 @@
-pub mod Listing
 pub mod Printed
 pub mod Appended
 pub mod Joined
-pub mod Found
 pub mod Fixtures
 pub mod Days
-pub mod Walk
-pub mod Pairs
-pub mod Paths
-pub mod Apart

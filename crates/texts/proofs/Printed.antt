@@ -4,7 +4,7 @@ use Rattle.std.specs.List.{flat_map}
 use Rattle.std.proofs.lemmas.List.{take_more, map-append}
 use Rattle.para.specs.declared.field.Field.{Field}
 use Rattle.para.specs.Field.{FieldValue, field_value, field_values}
-use Rattle.texts.proofs.Listing.{text_if, listed_more}
+use Rattle.indices.proofs.Listing.{text_if, listed_more}
 
 values_more : (fs : List Field) (i : ℕ) (d : Field) → i < length fs
     → field_values (take (i + 1) fs) ≡ field_values (take i fs) ++ field_value (get_or fs i d) ∷ []

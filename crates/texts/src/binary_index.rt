@@ -4,16 +4,16 @@ ghost use Rattle.std.specs.Prelude.{◌≡◌, ◌++◌, ◌<◌, [], ◌∷◌,
 ghost use Rattle.std.specs.List.{flat_map};
 ghost use Rattle.para.specs.Field.{field_values};
 ghost use Rattle.para.specs.Printing.{paragraph_text};
-ghost use Rattle.texts.specs.Positions.{components_at, architectures_at, component_at, architecture_at};
-ghost use Rattle.texts.specs.Stanzas.{is_named, file_fields, package_fields, package_stanza, fields_of_text, packages_text};
+ghost use Rattle.indices.specs.Positions.{components_at, architectures_at, component_at, architecture_at};
+ghost use Rattle.indices.specs.Stanzas.{is_named, file_fields, package_fields, package_stanza, fields_of_text, packages_text};
 ghost use Rattle.indices.specs.Listed.{is_in_packages};
 
 use crate::position::{architecture_name, component_name};
 use crate::stanza::{
-    Digest, USUAL_STANZA, has_name, paragraph_in, push_digest_field, push_if, push_line_field,
+    USUAL_STANZA, has_name, paragraph_in, push_digest_field, push_if, push_line_field,
     push_number_field,
 };
-use indices::lists_package;
+use indices::{Digest, lists_package};
 use para::Field;
 use rules::Config;
 use std::alloc::{AllocError, Global};
@@ -40,7 +40,7 @@ fn push_others(fields: &[Field<'_>], out: &mut Vec<u8>) -> Result<(), AllocError
 }
 
 /// Appends the fields of a control paragraph, Package first.
-#[tactic(auto, unfolding(crate::specs::Stanzas::package_fields))]
+#[tactic(auto, unfolding(indices::specs::Stanzas::package_fields))]
 fn push_fields(fields: &[Field<'_>], out: &mut Vec<u8>) -> Result<(), AllocError>
     ensures { OnOk result (out.new.items ≡ out.old.items ++ paragraph_text (package_fields (field_values fields.now))) }
 {
@@ -59,7 +59,7 @@ fn push_paragraph(alloc: Global, text: &str, out: &mut Vec<u8>) -> Result<(), Al
 }
 
 /// Appends the fields of a package file.
-#[tactic(auto, unfolding(crate::specs::Stanzas::file_fields))]
+#[tactic(auto, unfolding(indices::specs::Stanzas::file_fields))]
 fn push_file(alloc: Global, file: &PoolFile, out: &mut Vec<u8>) -> Result<(), AllocError>
     ensures { OnOk result (out.new.items ≡ out.old.items ++ paragraph_text (file_fields file.now)) }
 {
@@ -81,8 +81,8 @@ fn push_files(alloc: Global, files: &[PoolFile], out: &mut Vec<u8>) -> Result<()
 }
 
 /// The stanza of a package: its control paragraph with Package first, the fields of its file, an empty line.
-#[tactic(auto, unfolding(crate::specs::Stanzas::package_stanza))]
-fn package_stanza(alloc: Global, item: &Item) -> Result<Vec<u8>, AllocError>
+#[tactic(auto, unfolding(indices::specs::Stanzas::package_stanza))]
+pub fn package_stanza(alloc: Global, item: &Item) -> Result<Vec<u8>, AllocError>
     ensures { IfOk result (λ stanza. stanza.items ≡ package_stanza item.now) }
 {
     let mut stanza = Vec::with_capacity(alloc, USUAL_STANZA)?;
@@ -113,7 +113,7 @@ fn push_listed(
 }
 
 /// Appends the stanzas that the index of the architecture lists.
-#[tactic(auto, unfolding(crate::specs::Stanzas::packages_text))]
+#[tactic(auto, unfolding(indices::specs::Stanzas::packages_text))]
 pub fn push_packages(
     alloc: Global,
     shelves: &Shelves,

@@ -4,15 +4,12 @@
 
 ghost use Rattle.std.specs.Prelude.{◌≡◌, ◌*◌, ◌≤◌, ◌<◌, ◌-◌, ◌/◌, ◌%◌, pos, IfOk, string_bytes};
 ghost use Rattle.jiff.specs.Words.{civil_nanos};
-ghost use Rattle.texts.specs.Calendar.{weekday_name, month_name, year_of, month_of, day_of, day_text, time_text, date_text};
+ghost use Rattle.indices.specs.Calendar.{weekday_name, month_name, year_of, month_of, day_of, day_text, time_text, date_text};
 
 use jiff::Timestamp;
 use jiff::civil::DateTime;
 use jiff::tz::Offset;
 use std::alloc::{AllocError, Global};
-
-/// The last moment that may be given, 2099-12-31 23:59:59 UTC.
-pub const LATEST: u64 = 4_102_444_799;
 
 /// What a clock at UTC shows `moment` seconds after 1970-01-01 00:00:00 UTC.
 fn civil_time(moment: u64) -> DateTime
@@ -26,7 +23,7 @@ fn civil_time(moment: u64) -> DateTime
 }
 
 /// The name of a day of the week, counted from Thursday, the first day of 1970.
-#[tactic(auto, unfolding(crate::specs::Calendar::weekday_name))]
+#[tactic(auto, unfolding(indices::specs::Calendar::weekday_name))]
 fn weekday_name(day: u64) -> &'static str
     ensures { result.now ≡ weekday_name day }
 {
@@ -42,7 +39,7 @@ fn weekday_name(day: u64) -> &'static str
 }
 
 /// The name of a month, of the numbers 1 to 12.
-#[tactic(auto, unfolding(crate::specs::Calendar::month_name))]
+#[tactic(auto, unfolding(indices::specs::Calendar::month_name))]
 fn month_name(month: u8) -> &'static str
     requires low { 1 ≤ month }
     requires high { month ≤ 12 }

@@ -1,32 +1,25 @@
 //! The indices of a suite, their paths and their texts.
 
 ghost use Rattle.std.specs.Prelude.{◌≡◌, ◌≤◌, ◌<◌, ◌++◌, All, IfOk, length, map, codes, bytes_eq, option_map, string_bytes};
-ghost use Rattle.texts.specs.Places.{place_entry, place_path, place_text, places_in};
-ghost use Rattle.texts.specs.Positions.{indices_at};
-ghost use Rattle.texts.specs.Release.{index_path, index_of, listed_text, indices_of, release_text};
-ghost use Rattle.texts.specs.Indices.{text_at, folder_texts, suite_texts, index_text};
+ghost use Rattle.indices.specs.Places.{place_entry, place_path, place_text, places_in};
+ghost use Rattle.indices.specs.Positions.{indices_at, release_at};
+ghost use Rattle.indices.specs.Release.{index_path, index_of, listed_text, indices_of, release_text};
+ghost use Rattle.indices.specs.Indices.{text_at, folder_texts, suite_texts, index_text};
 
 use crate::binary_index::push_packages;
-use crate::date::LATEST;
-use crate::places::{IndexPlace, places_of};
+use crate::places::places_of;
 use crate::source_index::push_sources;
-use crate::suite_release::release_text;
+use crate::suite_release::{release, release_text};
+use indices::{Index, IndexPlace, LATEST};
 use para::{Listed, Text};
 use rules::{Config, Suite};
 use std::alloc::{AllocError, Global};
 use suites::Shelves;
 use sums::{Print, print_of};
 
-/// An index that a Release lists: its path from the folder of the suite, and its print.
-#[derive(Drop)]
-pub struct Index {
-    pub path: Text,
-    pub print: Print,
-}
-
 /// The path of an index from the folder of its suite: `COMPONENT/source/Sources` for the architecture `source`,
 /// `COMPONENT/binary-ARCHITECTURE/Packages` for another.
-#[tactic(auto, unfolding(crate::specs::Release::index_path))]
+#[tactic(auto, unfolding(indices::specs::Release::index_path))]
 pub fn index_path(alloc: Global, component: &str, architecture: &str) -> Result<String, AllocError>
     ensures { IfOk result (λ path. string_bytes path ≡ index_path component.now architecture.now) }
 {
@@ -38,7 +31,7 @@ pub fn index_path(alloc: Global, component: &str, architecture: &str) -> Result<
 }
 
 /// The text of an index other than Release, of the suite at a position.
-#[tactic(auto, unfolding(crate::specs::Release::listed_text))]
+#[tactic(auto, unfolding(indices::specs::Release::listed_text))]
 pub fn listed_text(
     alloc: Global,
     shelves: &Shelves,
@@ -187,6 +180,24 @@ fn rendered_release(
 {
     let indices = listed_indices(alloc, shelves, position, suite)?;
     release_text(alloc, suite, date, &indices)
+}
+
+/// The Release of the suite at a position of the configuration, whose shown items last changed at the moment.
+pub fn release_of(
+    alloc: Global,
+    config: &Config,
+    shelves: &Shelves,
+    position: usize,
+    moment: u64,
+) -> Result<Vec<u8>, AllocError>
+    requires suite { position < length config.now.suites }
+    requires moment { moment ≤ LATEST }
+    ensures { IfOk result (λ text. text.items ≡ release_at config.now position moment (indices_at config.now shelves.now position)) }
+{
+    let indices = indices_of(alloc, config, shelves, position)?;
+    let mut text = Vec::new(alloc);
+    release(alloc, config, position, moment, &indices, &mut text)?;
+    Ok(text)
 }
 
 /// The path of the folder of a suite, with a slash after it.

@@ -1,18 +1,12 @@
 //! The places of a suite's indices, and the paths of its texts.
 
 ghost use Rattle.std.specs.Prelude.{◌≡◌, ◌++◌, map, IfOk, OnOk, string_bytes};
-ghost use Rattle.texts.specs.Indices.{path_in};
-ghost use Rattle.texts.specs.Places.{place_at, places_in};
+ghost use Rattle.indices.specs.Indices.{path_in};
+ghost use Rattle.indices.specs.Places.{place_at, places_in};
 
+use indices::IndexPlace;
 use para::{Listed, Text};
 use std::alloc::{AllocError, Global};
-
-/// What distinguishes an index of a suite from its other indices.
-#[derive(Drop)]
-pub struct IndexPlace {
-    pub component: Text,
-    pub architecture: Text,
-}
 
 /// Appends the places of a component.
 fn push_places(

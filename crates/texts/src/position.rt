@@ -1,13 +1,13 @@
 //! What a configuration has at a position.
 
 ghost use Rattle.std.specs.Prelude.{◌≡◌, ◌<◌, length};
-ghost use Rattle.texts.specs.Positions.{components_at, architectures_at, component_at, architecture_at};
+ghost use Rattle.indices.specs.Positions.{components_at, architectures_at, component_at, architecture_at};
 
 use para::Text;
 use rules::Config;
 
 /// The components of a suite.
-#[tactic(auto, unfolding(crate::specs::Positions::components_at))]
+#[tactic(auto, unfolding(indices::specs::Positions::components_at))]
 pub fn components(config: &Config, suite: usize) -> &[Text]
     ensures { result.now ≡ components_at config.now suite }
 {
@@ -18,7 +18,7 @@ pub fn components(config: &Config, suite: usize) -> &[Text]
 }
 
 /// The architectures of a suite.
-#[tactic(auto, unfolding(crate::specs::Positions::architectures_at))]
+#[tactic(auto, unfolding(indices::specs::Positions::architectures_at))]
 pub fn architectures(config: &Config, suite: usize) -> &[Text]
     ensures { result.now ≡ architectures_at config.now suite }
 {

@@ -5,15 +5,13 @@ ghost use Rattle.std.specs.List.{flat_map, list_any};
 ghost use Rattle.para.specs.Field.{field_value, field_values};
 ghost use Rattle.para.specs.Printing.{field_text, more_text, paragraph_text};
 ghost use Rattle.suites.specs.Pool.{directory_of};
-ghost use Rattle.texts.specs.Positions.{components_at, component_at};
-ghost use Rattle.texts.specs.Stanzas.{is_named, is_placed, line_field, as_package, source_fields, fields_of_text, file_name, list_line, list_field, source_lists, source_stanza, sources_text};
+ghost use Rattle.indices.specs.Positions.{components_at, component_at};
+ghost use Rattle.indices.specs.Stanzas.{is_named, is_placed, line_field, as_package, source_fields, fields_of_text, file_name, list_line, list_field, source_lists, source_stanza, sources_text};
 ghost use Rattle.indices.specs.Listed.{is_in_sources};
 
 use crate::position::component_name;
-use crate::stanza::{
-    Digest, has_name, paragraph_in, push_field, push_if, push_line_field, push_list_line,
-};
-use indices::lists_source;
+use crate::stanza::{has_name, paragraph_in, push_field, push_if, push_line_field, push_list_line};
+use indices::{Digest, lists_source};
 use para::Field;
 use rules::Config;
 use std::alloc::{AllocError, Global};
@@ -143,7 +141,7 @@ fn push_list(
 }
 
 /// Appends the lists of the files of a source.
-#[tactic(auto, unfolding(crate::specs::Stanzas::source_lists))]
+#[tactic(auto, unfolding(indices::specs::Stanzas::source_lists))]
 fn push_lists(alloc: Global, files: &[PoolFile], out: &mut Vec<u8>) -> Result<(), AllocError>
     ensures { OnOk result (out.new.items ≡ out.old.items ++ paragraph_text (source_lists files.now)) }
 {
@@ -154,8 +152,8 @@ fn push_lists(alloc: Global, files: &[PoolFile], out: &mut Vec<u8>) -> Result<()
 
 /// The stanza of a source: its .dsc with Source first and under the name Package, without its lists; the folder of its
 /// files; the lists of the .dsc and its files; an empty line.
-#[tactic(auto, unfolding(crate::specs::Stanzas::source_stanza))]
-fn source_stanza(alloc: Global, item: &Item) -> Result<Vec<u8>, AllocError>
+#[tactic(auto, unfolding(indices::specs::Stanzas::source_stanza))]
+pub fn source_stanza(alloc: Global, item: &Item) -> Result<Vec<u8>, AllocError>
     ensures { IfOk result (λ stanza. stanza.items ≡ source_stanza item.now) }
 {
     let mut stanza = Vec::new(alloc);

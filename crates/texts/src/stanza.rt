@@ -5,8 +5,9 @@ ghost use Rattle.std.specs.Fmt.{decimal};
 ghost use Rattle.hex.specs.Hex.{encode_lower};
 ghost use Rattle.para.specs.Field.{field_value};
 ghost use Rattle.para.specs.Printing.{field_text, more_text};
-ghost use Rattle.texts.specs.Stanzas.{fields_of_text, line_field, is_named, list_line, digest_of};
+ghost use Rattle.indices.specs.Stanzas.{fields_of_text, line_field, is_named, list_line, digest_of};
 
+use indices::Digest;
 use para::{Field, ParaFault, Paragraph, read_one, write_field, write_line};
 use records::MOST_DSC;
 use std::alloc::{AllocError, Global};
@@ -16,7 +17,7 @@ use sums::Print;
 pub const USUAL_STANZA: usize = 1024;
 
 /// The paragraph that the text of an item spells; `None` if it does not spell one, or is longer than a .dsc may be.
-#[tactic(auto, unfolding(crate::specs::Stanzas::fields_of_text))]
+#[tactic(auto, unfolding(indices::specs::Stanzas::fields_of_text))]
 pub fn paragraph_in<'a>(alloc: Global, text: &'a str) -> Result<Option<Paragraph<'a>>, AllocError>
     ensures { IfOk result (λ found. MatchOption found (fields_of_text text.now ≡ []) (λ paragraph. fields_of_text text.now ≡ paragraph)) }
 {
@@ -77,14 +78,6 @@ pub fn push_number_field(
 {
     let value = format!(in alloc; "{value}")?;
     push_line_field(name, value.as_str(), out)
-}
-
-/// Which digest a list of files has.
-#[derive(Clone, Copy)]
-pub enum Digest {
-    Md5,
-    Sha1,
-    Sha256,
 }
 
 /// The digest of a print in lower-case hexadecimal.

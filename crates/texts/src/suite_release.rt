@@ -3,20 +3,20 @@
 ghost use Rattle.std.specs.Prelude.{◌≡◌, ◌≤◌, ◌<◌, ◌+◌, ◌*◌, ◌++◌, [], ◌∷◌, ◌||◌, not, OnOk, OnErr, IfOk, length, map, codes, string_bytes, if◌then◌else◌};
 ghost use Rattle.std.specs.List.{flat_map, join_with_byte};
 ghost use Rattle.para.specs.Printing.{field_text, more_text, paragraph_text};
-ghost use Rattle.texts.specs.Calendar.{date_text};
-ghost use Rattle.texts.specs.Positions.{release_at};
-ghost use Rattle.texts.specs.Stanzas.{line_field, list_line};
-ghost use Rattle.texts.specs.Release.{optional_field, index_list, valid_until, is_source, architectures_text, suite_fields, index_lists, release_text};
+ghost use Rattle.indices.specs.Calendar.{date_text};
+ghost use Rattle.indices.specs.Positions.{release_at};
+ghost use Rattle.indices.specs.Stanzas.{line_field, list_line};
+ghost use Rattle.indices.specs.Release.{optional_field, index_list, valid_until, is_source, architectures_text, suite_fields, index_lists, release_text};
 
-use crate::date::{LATEST, date_text};
-use crate::index::Index;
-use crate::stanza::{Digest, push_line_field, push_list_line};
+use crate::date::date_text;
+use crate::stanza::{push_line_field, push_list_line};
+use indices::{Digest, Index, LATEST};
 use para::Text;
 use rules::{Config, Days, Suite};
 use std::alloc::{AllocError, Global};
 
 /// Appends the field if the configuration has a value for it.
-#[tactic(auto, unfolding(crate::specs::Release::optional_field))]
+#[tactic(auto, unfolding(indices::specs::Release::optional_field))]
 fn push_optional(name: &str, value: &Option<Text>, out: &mut Vec<u8>) -> Result<(), AllocError>
     ensures { OnOk result (out.new.items ≡ out.old.items ++ paragraph_text (optional_field name.now value.now)) }
 {
@@ -129,7 +129,7 @@ fn push_end(alloc: Global, moment: u64, days: Days, out: &mut Vec<u8>) -> Result
 }
 
 /// Appends the field Valid-Until, if the suite says for how long its Release is valid.
-#[tactic(auto, unfolding(crate::specs::Release::valid_until))]
+#[tactic(auto, unfolding(indices::specs::Release::valid_until))]
 fn push_valid_until(
     alloc: Global,
     suite: &Suite,

@@ -11,6 +11,7 @@ use Rattle.std.specs.Option.{option_map}
 use Rattle.std.specs.Ordering.{eq_by_cmp}
 use Rattle.std.specs.String.{string_bytes, string_cmp}
 use Rattle.std.proofs.lemmas.List.Elements.{All-contains}
+use Rattle.std.proofs.lemmas.Option.{same_Some}
 use Rattle.sums.proofs.Members.{contains_map, from_map}
 use Rattle.sums.specs.declared.print.Print.{Print}
 use Rattle.suites.specs.Counts.{Counts}
@@ -62,10 +63,7 @@ of_pool shelves f h =
 -- at one path the same contents
 pub pool_agrees : (shelves : ShelvesValue) → AreAgreed (pool_files shelves)
 pool_agrees shelves f g in_f in_g same =
-    same_print (sym (pool_has shelves f in_f) ∙ ap (get (pool shelves)) same ∙ pool_has shelves g in_g)
-  where
-    same_print : {a b : Print} → Some a ≡ Some b → a ≡ b
-    same_print e = cc
+    same_Some f.print g.print (sym (pool_has shelves f in_f) ∙ ap (get (pool shelves)) same ∙ pool_has shelves g in_g)
 
 -- ---- what suites name
 

@@ -2,6 +2,7 @@
 use Rattle.std.proofs.Common.{◌≡◌, ◌≢◌, ℕ, Bool, true, false, not, cond, List, [], ◌∷◌, ◌++◌, map, filter, bytes_eq, refl, sym, ◌∙◌}
 use Rattle.std.specs.Prelude.{Contains, ⊤, nat_eq}
 use Rattle.std.proofs.lemmas.Bool.Decides.{Decides-eqb}
+use Rattle.std.proofs.lemmas.Bool.{not-true}
 use Rattle.sums.proofs.Agree.{same_bytes, bytes_same}
 use Rattle.sums.proofs.Members.{here, there, any_true}
 use Rattle.suites.proofs.ListMembers.{from_filter}
@@ -90,8 +91,4 @@ shows suites = each_map IsShow Show suites (λ s h. tt)
 
 pub removals : (files : List PoolFile) (left : List (List ℕ)) → Each (IsRemoval files left) (map Remove (kept_back files left))
 removals files left = each_map (IsRemoval files left) Remove (kept_back files left)
-    (λ p h. let r = from_filter (λ path. not (is_among files path)) p left h in (r.0, negated (is_among files p) r.1))
-  where
-    negated : (b : Bool) → not b ≡ true → b ≡ false
-    negated true e = cc e
-    negated false e = refl
+    (λ p h. let r = from_filter (λ path. not (is_among files path)) p left h in (r.0, not-true (is_among files p) r.1))

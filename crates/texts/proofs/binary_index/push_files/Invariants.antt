@@ -1,7 +1,7 @@
 use Rattle.std.proofs.Common.{◌≡◌, ◌++◌, take}
 use Rattle.std.specs.List.{flat_map}
 use Rattle.para.specs.Printing.{paragraph_text}
-use Rattle.texts.specs.Stanzas.{file_fields}
+use Rattle.indices.specs.Stanzas.{file_fields}
 use Rattle.texts.proofs.binary_index.push_files.Given as goal
 
 abbrev pub invariant-loop-file : goal.invariant-loop-file

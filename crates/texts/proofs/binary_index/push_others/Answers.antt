@@ -1,6 +1,6 @@
 use Rattle.std.proofs.Common.{ap, codes, not, arith}
 use Rattle.para.specs.Printing.{field_text}
-use Rattle.texts.specs.Stanzas.{is_named}
+use Rattle.indices.specs.Stanzas.{is_named}
 use Rattle.texts.proofs.Printed.{written_more}
 use Rattle.texts.proofs.binary_index.push_others.Goals as goal
 

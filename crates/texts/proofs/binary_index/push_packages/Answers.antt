@@ -6,8 +6,8 @@ use Rattle.suites.specs.declared.key.ShelfKey.{ShelfKey}
 use Rattle.suites.specs.declared.item.Item.{Item}
 use Rattle.para.proofs.Fronts.{front_trans, front_append}
 use Rattle.indices.specs.Listed.{is_in_packages}
-use Rattle.texts.specs.Stanzas.{package_stanza, packages_text}
-use Rattle.texts.proofs.Listing.{listed_more, shown_more, all_shown}
+use Rattle.indices.specs.Stanzas.{package_stanza, packages_text}
+use Rattle.indices.proofs.Listing.{listed_more, shown_more, all_shown}
 use Rattle.texts.proofs.binary_index.push_packages.Goals as goal
 
 pub loop-key-init : goal.loop-key-init

@@ -3,7 +3,7 @@ use Rattle.std.specs.List.{flat_map}
 use Rattle.std.specs.FinMap.{entries}
 use Rattle.std.specs.Map.Iter.{deref_pair}
 use Rattle.indices.specs.Listed.{is_in_packages}
-use Rattle.texts.specs.Stanzas.{package_stanza}
+use Rattle.indices.specs.Stanzas.{package_stanza}
 use Rattle.texts.proofs.binary_index.push_packages.Given as goal
 
 abbrev pub invariant-loop-key : goal.invariant-loop-key

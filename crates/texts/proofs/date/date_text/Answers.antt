@@ -1,6 +1,6 @@
 use Rattle.std.proofs.Common.{◌≡◌, ℕ, ◌/◌, ◌%◌, List, ◌++◌, ◌∷◌, codes, string_bytes, sym, ap, ◌∙◌, append_assoc}
 use Rattle.std.proofs.lemmas.Result.{IfOk-weaker}
-use Rattle.texts.specs.Calendar.{weekday_name, year_of, month_of, day_of, day_text, time_text, date_text}
+use Rattle.indices.specs.Calendar.{weekday_name, year_of, month_of, day_of, day_text, time_text, date_text}
 use Rattle.texts.proofs.date.date_text.Goals as goal
 
 in_a_row : (a b c : List ℕ) → a ++ 44 ∷ 32 ∷ (b ++ 32 ∷ (c ++ codes " UTC")) ≡ (((((a ++ codes ", ") ++ b) ++ codes " ") ++ c) ++ codes " UTC")

@@ -1,7 +1,7 @@
 use Rattle.std.proofs.Common.{◌≡◌, ℕ, ◌/◌, List, ◌++◌, ◌∷◌, codes, sym, ap, ◌∙◌, append_assoc}
 use Rattle.std.specs.Fmt.{styled_decimal, decimal}
 use Rattle.std.proofs.lemmas.Result.{IfOk-weaker}
-use Rattle.texts.specs.Calendar.{year_of, month_of, day_of, month_name, two_digits, day_text}
+use Rattle.indices.specs.Calendar.{year_of, month_of, day_of, month_name, two_digits, day_text}
 use Rattle.texts.proofs.Days.{two}
 use Rattle.texts.proofs.date.day_text.Goals as goal
 

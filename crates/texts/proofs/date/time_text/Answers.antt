@@ -1,7 +1,7 @@
 use Rattle.std.proofs.Common.{◌≡◌, ℕ, ◌/◌, ◌%◌, List, ◌++◌, ◌∷◌, codes, sym, ap, ◌∙◌, append_assoc, arith}
 use Rattle.std.specs.Fmt.{styled_decimal}
 use Rattle.std.proofs.lemmas.Result.{IfOk-weaker}
-use Rattle.texts.specs.Calendar.{two_digits, time_text}
+use Rattle.indices.specs.Calendar.{two_digits, time_text}
 use Rattle.texts.proofs.Days.{two}
 use Rattle.texts.proofs.date.time_text.Goals as goal
 

@@ -1,6 +1,6 @@
 use Rattle.std.proofs.Common.{◌≡◌, ◌/◌, ◌≤◌, pos, to_z, of_z, arith, ◌∙◌, refl}
 use Rattle.std.specs.Int.{w16}
-use Rattle.texts.specs.Calendar.{year_of}
+use Rattle.indices.specs.Calendar.{year_of}
 use Rattle.texts.proofs.Days.{shown, year_small, back}
 use Rattle.texts.proofs.date.year.Goals as goal
 

@@ -1,7 +1,7 @@
 use Rattle.std.proofs.Common.{◌≡◌, ℕ, List, ◌++◌, length, take, codes, sym, ap, ◌∙◌, append_assoc, arith}
 use Rattle.std.proofs.lemmas.List.{take_all}
 use Rattle.std.proofs.lemmas.Result.{IfOk-weaker}
-use Rattle.texts.specs.Release.{index_path}
+use Rattle.indices.specs.Release.{index_path}
 use Rattle.texts.proofs.index.index_path.Goals as goal
 
 in_a_row : (a b c d : List ℕ) → a ++ (b ++ (take (length c) c ++ d)) ≡ ((a ++ b) ++ c) ++ d

@@ -4,8 +4,8 @@ use Rattle.std.specs.Option.{option_map}
 use Rattle.std.proofs.lemmas.Bool.Decides.{leb_tells}
 use Rattle.std.proofs.lemmas.List.{get_or_default}
 use Rattle.rules.specs.declared.suite.Suite.{Suite}
-use Rattle.texts.specs.Indices.{text_at, texts_from, index_text}
-use Rattle.texts.proofs.Found.{found_suite, none_suite, no_suite}
+use Rattle.indices.specs.Indices.{text_at, texts_from, index_text}
+use Rattle.indices.proofs.Found.{found_suite, none_suite, no_suite}
 use Rattle.texts.proofs.index.index_text.Goals as goal
 
 pub returns-in-Some : goal.returns-in-Some

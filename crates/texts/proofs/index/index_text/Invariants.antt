@@ -1,6 +1,6 @@
 use Rattle.std.proofs.Common.{◌≡◌, drop}
 use Rattle.std.specs.List.{zip}
-use Rattle.texts.specs.Indices.{text_at, texts_from}
+use Rattle.indices.specs.Indices.{text_at, texts_from}
 use Rattle.texts.proofs.index.index_text.Given as goal
 
 abbrev pub invariant-loop-position : goal.invariant-loop-position

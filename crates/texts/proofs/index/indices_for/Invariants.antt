@@ -1,6 +1,6 @@
 use Rattle.std.proofs.Common.{◌≡◌, map, take}
-use Rattle.texts.specs.Places.{place_entry}
-use Rattle.texts.specs.Release.{index_of}
+use Rattle.indices.specs.Places.{place_entry}
+use Rattle.indices.specs.Release.{index_of}
 use Rattle.texts.proofs.index.indices_for.Given as goal
 
 abbrev pub invariant-loop-place : goal.invariant-loop-place

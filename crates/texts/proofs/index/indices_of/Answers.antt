@@ -3,8 +3,8 @@ use Rattle.std.specs.Option.{option_map_or}
 use Rattle.std.proofs.lemmas.Option.{slice_get_read}
 use Rattle.std.proofs.lemmas.Result.{IfOk-weaker}
 use Rattle.rules.specs.declared.suite.Suite.{Suite}
-use Rattle.texts.specs.Release.{indices_of}
-use Rattle.texts.specs.Positions.{indices_at}
+use Rattle.indices.specs.Release.{indices_of}
+use Rattle.indices.specs.Positions.{indices_at}
 use Rattle.texts.proofs.index.indices_of.Goals as goal
 
 pub returns : goal.returns

@@ -1,9 +1,9 @@
 use Rattle.std.proofs.Common.{◌≡◌, List, map, sym, ap, ◌∙◌}
 use Rattle.std.proofs.lemmas.Result.{IfOk-weaker}
-use Rattle.texts.specs.Places.{place_entry}
-use Rattle.texts.specs.Release.{index_of}
-use Rattle.texts.specs.declared.places.IndexPlace.{IndexPlace}
-use Rattle.texts.proofs.Walk.{indices_by_place}
+use Rattle.indices.specs.Places.{place_entry}
+use Rattle.indices.specs.Release.{index_of}
+use Rattle.indices.specs.declared.index.IndexPlace.{IndexPlace}
+use Rattle.indices.proofs.Walk.{indices_by_place}
 use Rattle.texts.proofs.index.listed_indices.Goals as goal
 
 pub returns : goal.returns

@@ -2,8 +2,8 @@ use Rattle.std.proofs.Common.{◌≡◌, ℕ, List, ◌++◌, false, map, codes,
 use Rattle.std.specs.List.{starts_with}
 use Rattle.std.proofs.lemmas.Str.Pattern.{starts_text}
 use Rattle.std.proofs.lemmas.Result.{IfOk-weaker}
-use Rattle.texts.specs.Indices.{PathText, text_at, folder_texts, suite_texts}
-use Rattle.texts.proofs.Found.{behind, none_behind, text_at-behind}
+use Rattle.indices.specs.Indices.{PathText, text_at, folder_texts, suite_texts}
+use Rattle.indices.proofs.Found.{behind, none_behind, text_at-behind}
 use Rattle.texts.proofs.index.suite_text.Goals as goal
 
 pub returns-in_default : goal.returns-in_default

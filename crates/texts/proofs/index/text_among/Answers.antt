@@ -1,7 +1,7 @@
 use Rattle.std.proofs.Common.{◌≡◌, ℕ, List, true, false, Some, map, bytes_eq, refl, sym, ap, ◌∙◌, arith}
-use Rattle.texts.specs.Places.{place_entry, place_path}
-use Rattle.texts.specs.declared.places.IndexPlace.{IndexPlace}
-use Rattle.texts.proofs.Found.{found_at, other_at, nothing_left}
+use Rattle.indices.specs.Places.{place_entry, place_path}
+use Rattle.indices.specs.declared.index.IndexPlace.{IndexPlace}
+use Rattle.indices.proofs.Found.{found_at, other_at, nothing_left}
 use Rattle.texts.proofs.index.text_among.Goals as goal
 
 pub returns-then-branch : goal.returns-then-branch

@@ -1,6 +1,6 @@
 use Rattle.std.proofs.Common.{◌≡◌, map, drop}
-use Rattle.texts.specs.Indices.{text_at}
-use Rattle.texts.specs.Places.{place_entry}
+use Rattle.indices.specs.Indices.{text_at}
+use Rattle.indices.specs.Places.{place_entry}
 use Rattle.texts.proofs.index.text_among.Given as goal
 
 abbrev pub invariant-loop-place : goal.invariant-loop-place

@@ -1,12 +1,12 @@
 use Rattle.std.proofs.Common.{ℕ, List, Some, map, codes, sym, ap, ◌∙◌}
 use Rattle.std.proofs.lemmas.Cmp.{nat_list_eq_equiv}
 use Rattle.std.proofs.lemmas.Result.{IfOk-weaker}
-use Rattle.texts.specs.Places.{place_entry}
-use Rattle.texts.specs.Release.{listed_texts, release_text, indices_of}
-use Rattle.texts.specs.Indices.{PathText, text_at, folder_texts}
-use Rattle.texts.specs.declared.places.IndexPlace.{IndexPlace}
-use Rattle.texts.proofs.Found.{text_at-found, text_at-other}
-use Rattle.texts.proofs.Walk.{listed_by_place}
+use Rattle.indices.specs.Places.{place_entry}
+use Rattle.indices.specs.Release.{listed_texts, release_text, indices_of}
+use Rattle.indices.specs.Indices.{PathText, text_at, folder_texts}
+use Rattle.indices.specs.declared.index.IndexPlace.{IndexPlace}
+use Rattle.indices.proofs.Found.{text_at-found, text_at-other}
+use Rattle.indices.proofs.Walk.{listed_by_place}
 use Rattle.texts.proofs.index.text_in_folder.Goals as goal
 
 pub returns-then-eq : goal.returns-then-eq

@@ -1,6 +1,6 @@
 use Rattle.std.proofs.Common.{◌≡◌, map, take}
 use Rattle.std.specs.List.{flat_map}
-use Rattle.texts.specs.Places.{place_at}
+use Rattle.indices.specs.Places.{place_at}
 use Rattle.texts.proofs.places.places_of.Given as goal
 
 abbrev pub invariant-loop-component : goal.invariant-loop-component

@@ -1,5 +1,5 @@
 use Rattle.std.proofs.Common.{◌≡◌, ◌++◌, map, take}
-use Rattle.texts.specs.Places.{place_at}
+use Rattle.indices.specs.Places.{place_at}
 use Rattle.texts.proofs.places.push_places.Given as goal
 
 abbrev pub invariant-loop-architecture : goal.invariant-loop-architecture

@@ -4,7 +4,7 @@ use Rattle.std.proofs.lemmas.List.Folds.{flat_map-map}
 use Rattle.std.proofs.lemmas.Result.{IfOk-weaker}
 use Rattle.para.specs.Field.{FieldValue, field_values}
 use Rattle.para.specs.Printing.{field_text, paragraph_text}
-use Rattle.texts.specs.Stanzas.{is_named, is_placed, as_package, source_fields}
+use Rattle.indices.specs.Stanzas.{is_named, is_placed, as_package, source_fields}
 use Rattle.texts.proofs.Appended.{two}
 use Rattle.texts.proofs.source_index.push_fields.Goals as goal
 

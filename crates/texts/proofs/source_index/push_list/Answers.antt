@@ -4,7 +4,7 @@ use Rattle.std.proofs.lemmas.List.Folds.{flat_map-map}
 use Rattle.std.proofs.lemmas.Result.{IfOk-weaker}
 use Rattle.para.specs.Printing.{head_text, more_text}
 use Rattle.suites.specs.declared.item.PoolFile.{PoolFile}
-use Rattle.texts.specs.Stanzas.{line_field, list_line, list_field, file_name}
+use Rattle.indices.specs.Stanzas.{line_field, list_line, list_field, file_name}
 use Rattle.texts.proofs.Appended.{two}
 use Rattle.texts.proofs.source_index.push_list.Goals as goal
 

@@ -1,7 +1,7 @@
 use Rattle.std.proofs.Common.{◌≡◌, ◌++◌, take}
 use Rattle.std.specs.List.{flat_map}
 use Rattle.para.specs.Printing.{more_text}
-use Rattle.texts.specs.Stanzas.{list_line, file_name}
+use Rattle.indices.specs.Stanzas.{list_line, file_name}
 use Rattle.texts.proofs.source_index.push_list_lines.Given as goal
 
 abbrev pub invariant-loop-file : goal.invariant-loop-file

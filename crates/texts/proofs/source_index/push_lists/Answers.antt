@@ -1,7 +1,7 @@
 use Rattle.std.proofs.Common.{ℕ, List, ◌++◌, sym, ap, ◌∙◌}
 use Rattle.std.proofs.lemmas.List.{append-nil}
 use Rattle.std.proofs.lemmas.Result.{IfOk-weaker}
-use Rattle.texts.specs.Stanzas.{source_lists}
+use Rattle.indices.specs.Stanzas.{source_lists}
 use Rattle.texts.proofs.Appended.{three}
 use Rattle.texts.proofs.source_index.push_lists.Goals as goal
 

@@ -1,6 +1,6 @@
 use Rattle.std.proofs.Common.{codes, arith}
 use Rattle.para.specs.Printing.{field_text}
-use Rattle.texts.specs.Stanzas.{is_named, as_package}
+use Rattle.indices.specs.Stanzas.{is_named, as_package}
 use Rattle.texts.proofs.Printed.{written_more}
 use Rattle.texts.proofs.source_index.push_name.Goals as goal
 

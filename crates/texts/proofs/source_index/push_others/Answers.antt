@@ -1,6 +1,6 @@
 use Rattle.std.proofs.Common.{ap, not, arith}
 use Rattle.para.specs.Printing.{field_text}
-use Rattle.texts.specs.Stanzas.{is_placed}
+use Rattle.indices.specs.Stanzas.{is_placed}
 use Rattle.texts.proofs.Printed.{written_more}
 use Rattle.texts.proofs.source_index.push_others.Goals as goal
 

@@ -1,7 +1,7 @@
 use Rattle.std.proofs.Common.{◌≡◌, ◌++◌, take, filter, not}
 use Rattle.para.specs.Field.{field_values}
 use Rattle.para.specs.Printing.{paragraph_text}
-use Rattle.texts.specs.Stanzas.{is_placed}
+use Rattle.indices.specs.Stanzas.{is_placed}
 use Rattle.texts.proofs.source_index.push_others.Given as goal
 
 abbrev pub invariant-loop-field : goal.invariant-loop-field

@@ -6,8 +6,8 @@ use Rattle.suites.specs.declared.key.ShelfKey.{ShelfKey}
 use Rattle.suites.specs.declared.item.Item.{Item}
 use Rattle.para.proofs.Fronts.{front_trans, front_append}
 use Rattle.indices.specs.Listed.{is_in_sources}
-use Rattle.texts.specs.Stanzas.{source_stanza, sources_text}
-use Rattle.texts.proofs.Listing.{listed_more, shown_more, all_shown}
+use Rattle.indices.specs.Stanzas.{source_stanza, sources_text}
+use Rattle.indices.proofs.Listing.{listed_more, shown_more, all_shown}
 use Rattle.texts.proofs.source_index.push_sources.Goals as goal
 
 pub loop-key-init : goal.loop-key-init

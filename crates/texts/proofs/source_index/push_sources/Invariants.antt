@@ -3,7 +3,7 @@ use Rattle.std.specs.List.{flat_map}
 use Rattle.std.specs.FinMap.{entries}
 use Rattle.std.specs.Map.Iter.{deref_pair}
 use Rattle.indices.specs.Listed.{is_in_sources}
-use Rattle.texts.specs.Stanzas.{source_stanza}
+use Rattle.indices.specs.Stanzas.{source_stanza}
 use Rattle.texts.proofs.source_index.push_sources.Given as goal
 
 abbrev pub invariant-loop-key : goal.invariant-loop-key

@@ -1,7 +1,7 @@
 use Rattle.std.proofs.Common.{ℕ, List, ◌++◌, [], ◌∷◌, sym, ap, ◌∙◌}
 use Rattle.std.proofs.lemmas.Grind.{flat_map-append}
 use Rattle.para.specs.Printing.{field_text}
-use Rattle.texts.specs.Stanzas.{source_stanza, source_fields, fields_of_text}
+use Rattle.indices.specs.Stanzas.{source_stanza, source_fields, fields_of_text}
 use Rattle.texts.proofs.Appended.{three}
 use Rattle.texts.proofs.source_index.source_stanza.Goals as goal
 

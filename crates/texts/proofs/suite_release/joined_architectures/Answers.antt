@@ -2,7 +2,7 @@ use Rattle.std.proofs.Common.{◌≡◌, ℕ, Bool, ◌||◌, ◌+◌, List, [],
 use Rattle.std.specs.List.{join_with_byte}
 use Rattle.std.proofs.lemmas.List.{take_more, take_all}
 use Rattle.para.specs.Bytes.{is_nil}
-use Rattle.texts.specs.Release.{architectures_text, is_source}
+use Rattle.indices.specs.Release.{architectures_text, is_source}
 use Rattle.texts.proofs.Joined.{behind_binary, join_binary, begun_binary, binary}
 use Rattle.texts.proofs.suite_release.joined_architectures.Goals as goal
 

@@ -1,7 +1,7 @@
 use Rattle.std.proofs.Common.{◌≡◌, take, not, filter, string_bytes}
 use Rattle.std.specs.List.{join_with_byte}
 use Rattle.para.specs.Bytes.{is_nil}
-use Rattle.texts.specs.Release.{is_source}
+use Rattle.indices.specs.Release.{is_source}
 use Rattle.texts.proofs.suite_release.joined_architectures.Given as goal
 
 abbrev pub invariant-loop-name : goal.invariant-loop-name

@@ -3,9 +3,9 @@ use Rattle.std.proofs.lemmas.List.{append-nil}
 use Rattle.std.proofs.lemmas.List.Folds.{flat_map-map}
 use Rattle.std.proofs.lemmas.Result.{IfOk-weaker}
 use Rattle.para.specs.Printing.{head_text, more_text}
-use Rattle.texts.specs.declared.index.Index.{Index}
-use Rattle.texts.specs.Release.{index_list}
-use Rattle.texts.specs.Stanzas.{line_field, list_line}
+use Rattle.indices.specs.declared.index.Index.{Index}
+use Rattle.indices.specs.Release.{index_list}
+use Rattle.indices.specs.Stanzas.{line_field, list_line}
 use Rattle.texts.proofs.Appended.{two}
 use Rattle.texts.proofs.suite_release.push_list.Goals as goal
 

@@ -1,7 +1,7 @@
 use Rattle.std.proofs.Common.{◌≡◌, ◌++◌, take}
 use Rattle.std.specs.List.{flat_map}
 use Rattle.para.specs.Printing.{more_text}
-use Rattle.texts.specs.Stanzas.{list_line}
+use Rattle.indices.specs.Stanzas.{list_line}
 use Rattle.texts.proofs.suite_release.push_list_lines.Given as goal
 
 abbrev pub invariant-loop-index : goal.invariant-loop-index

@@ -5,9 +5,9 @@ use Rattle.std.proofs.lemmas.Result.{IfOk-weaker}
 use Rattle.para.specs.Field.{FieldValue}
 use Rattle.para.specs.Fields.{Fields}
 use Rattle.para.specs.Printing.{field_text, paragraph_text}
-use Rattle.texts.specs.Calendar.{date_text}
-use Rattle.texts.specs.Stanzas.{line_field}
-use Rattle.texts.specs.Release.{suite_fields, optional_field, valid_until, architectures_text}
+use Rattle.indices.specs.Calendar.{date_text}
+use Rattle.indices.specs.Stanzas.{line_field}
+use Rattle.indices.specs.Release.{suite_fields, optional_field, valid_until, architectures_text}
 use Rattle.texts.proofs.Appended.{two}
 use Rattle.texts.proofs.suite_release.push_suite.Goals as goal
 

@@ -4,8 +4,8 @@ use Rattle.std.specs.Result.{is_ok, OnOk}
 use Rattle.std.specs.Option.{option_map_or}
 use Rattle.std.proofs.lemmas.Option.{slice_get_read}
 use Rattle.rules.specs.declared.suite.Suite.{Suite}
-use Rattle.texts.specs.Release.{release_text}
-use Rattle.texts.specs.Positions.{release_at}
+use Rattle.indices.specs.Release.{release_text}
+use Rattle.indices.specs.Positions.{release_at}
 use Rattle.texts.proofs.suite_release.release.Goals as goal
 
 on_ok : (r : Result (Unit {0}) AllocError) (x y z : List ℕ) → x ≡ (if is_ok r then y else z) → {w : List ℕ} → y ≡ w → OnOk r (x ≡ w)

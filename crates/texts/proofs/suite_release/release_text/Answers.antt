@@ -1,7 +1,7 @@
 use Rattle.std.proofs.Common.{sym, ◌∙◌}
 use Rattle.std.proofs.lemmas.Grind.{flat_map-append}
 use Rattle.para.specs.Printing.{field_text}
-use Rattle.texts.specs.Release.{suite_fields, index_lists, release_text}
+use Rattle.indices.specs.Release.{suite_fields, index_lists, release_text}
 use Rattle.texts.proofs.Appended.{two}
 use Rattle.texts.proofs.suite_release.release_text.Goals as goal
 

@@ -6,15 +6,9 @@ use Rattle.std.proofs.lemmas.List.Kept.{AllPairs-cons}
 use Rattle.std.specs.List.{flat_map}
 use Rattle.std.specs.Prelude.{All, AllPairs, Contains}
 use Rattle.sums.proofs.Members.{all_at, all_from, from_map, here, no_member, pairs_head, pairs_tail, there, which}
+use Rattle.suites.proofs.ListMembers.{from_flat_map}
 
 -- ---- members
-
-pub in_flat : {X Y : Type 0} (f : X → List Y) (xs : List X) (y : Y) → Contains (flat_map f xs) y → (x : X) × Contains xs x × Contains (f x) y
-in_flat f [] y h = no_member y h
-in_flat f (x ∷ xs) y h = elim (Contains-append_cases (f x) (flat_map f xs) y h) [
-  | inl mine ↦ (x, here x xs, mine)
-  | inr later ↦ let found = in_flat f xs y later in (found.0, there x found.0 xs found.1, found.2)
-]
 
 pub into_flat : {X Y : Type 0} (f : X → List Y) (xs : List X) (x : X) (y : Y) → Contains xs x → Contains (f x) y → Contains (flat_map f xs) y
 into_flat f [] x y at h = no_member x at
@@ -63,7 +57,7 @@ pairs_flat R S f (x ∷ xs) own h k =
     pairs_append R (f x) (flat_map f xs) (own x (here x xs))
     (pairs_flat R S f xs (λ y at. own y (there x y xs at)) (λ y z p q. h y z (there x y xs p) (there x z xs q)) (pairs_tail S x xs k))
     (λ a b mine later.
-    let found = in_flat f xs b later in
+    let found = from_flat_map f b xs later in
     h x found.0 (here x xs) (there x found.0 xs found.1) (all_at (S x) xs found.0 (pairs_head S x xs k) found.1) a b mine found.2)
 
 -- if what is made of elements differs, the elements differ

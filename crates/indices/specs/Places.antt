@@ -2,8 +2,8 @@
 use Rattle.std.specs.Prelude.{ℕ, List, map}
 use Rattle.std.specs.List.{flat_map}
 use Rattle.suites.specs.Shelves.{ShelvesValue}
-use Rattle.texts.specs.Release.{index_path, listed_text}
-use Rattle.texts.specs.declared.places.IndexPlace.{IndexPlace}
+use Rattle.indices.specs.Release.{index_path, listed_text}
+use Rattle.indices.specs.declared.index.IndexPlace.{IndexPlace}
 
 -- the place of a component and an architecture
 abbrev pub place_at : List ℕ → List ℕ → IndexPlace

@@ -16,8 +16,8 @@ use Rattle.suites.specs.Shelves.{ShelvesValue}
 use Rattle.suites.specs.declared.item.Item.{Item}
 use Rattle.suites.specs.declared.item.PoolFile.{PoolFile}
 use Rattle.indices.specs.Listed.{is_in_packages, is_in_sources}
-use Rattle.texts.specs.declared.stanza.Digest.{Digest}
-use Rattle.texts.specs.declared.stanza.Digest.TheVariants.{Md5, Sha1, Sha256}
+use Rattle.indices.specs.declared.index.Digest.{Digest}
+use Rattle.indices.specs.declared.index.Digest.TheVariants.{Md5, Sha1, Sha256}
 
 -- the fields of the paragraph that a text spells, none if it spells none; the limit is that of a .dsc
 unfoldable pub fields_of_text : List ℕ → Fields

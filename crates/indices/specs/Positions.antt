@@ -3,8 +3,8 @@ use Rattle.std.specs.Prelude.{ℕ, List, [], get_or, slice_get}
 use Rattle.std.specs.Option.{option_map_or}
 use Rattle.rules.specs.Values.{ConfigValue}
 use Rattle.suites.specs.Shelves.{ShelvesValue}
-use Rattle.texts.specs.declared.index.Index.{Index}
-use Rattle.texts.specs.Release.{release_text, indices_of}
+use Rattle.indices.specs.declared.index.Index.{Index}
+use Rattle.indices.specs.Release.{release_text, indices_of}
 
 -- the components of the suite at a position, none if there is no suite
 unfoldable pub components_at : ConfigValue → ℕ → List (List ℕ)

@@ -2,17 +2,14 @@
 use Rattle.std.proofs.Common.{◌≡◌, ℕ, List, [], ◌∷◌, ◌++◌, map, refl, sym, ap, ◌∙◌}
 use Rattle.std.specs.List.{flat_map}
 use Rattle.std.proofs.lemmas.List.{map-append}
+use Rattle.std.proofs.lemmas.Simd.{map-map}
 use Rattle.rules.specs.declared.suite.Suite.{Suite}
 use Rattle.suites.specs.Shelves.{ShelvesValue}
-use Rattle.texts.specs.Places.{place_at, place_entry, places_in}
-use Rattle.texts.specs.Release.{index_of, indices_of, listed_entry, listed_texts}
-
-pub map_twice : {A B C : Type 0} (f : B → C) (g : A → B) (xs : List A) → map f (map g xs) ≡ map (λ x. f (g x)) xs
-map_twice f g [] = refl
-map_twice f g (x ∷ xs) = ap (λ ys. f (g x) ∷ ys) (map_twice f g xs)
+use Rattle.indices.specs.Places.{place_at, place_entry, places_in}
+use Rattle.indices.specs.Release.{index_of, indices_of, listed_entry, listed_texts}
 
 pub of_component : (shelves : ShelvesValue) (suite : ℕ) (c : List ℕ) (architectures : List (List ℕ)) → map (listed_entry shelves suite c) architectures ≡ map (place_entry shelves suite) (map (place_at c) architectures)
-of_component shelves suite c architectures = sym (map_twice (place_entry shelves suite) (place_at c) architectures)
+of_component shelves suite c architectures = sym (map-map (place_entry shelves suite) (place_at c) architectures)
 
 pub by_place : (shelves : ShelvesValue) (suite : ℕ) (components architectures : List (List ℕ))
     → flat_map (λ c. map (listed_entry shelves suite c) architectures) components ≡ map (place_entry shelves suite) (places_in components architectures)
@@ -28,4 +25,4 @@ listed_by_place shelves suite s = by_place shelves suite s.components s.architec
 
 pub indices_by_place : (shelves : ShelvesValue) (suite : ℕ) (s : Suite) → indices_of s shelves suite ≡ map (λ p. index_of (place_entry shelves suite p)) (places_in s.components s.architectures)
 unfolding indices_of
-indices_by_place shelves suite s = ap (map index_of) (listed_by_place shelves suite s) ∙ map_twice index_of (place_entry shelves suite) (places_in s.components s.architectures)
+indices_by_place shelves suite s = ap (map index_of) (listed_by_place shelves suite s) ∙ map-map index_of (place_entry shelves suite) (places_in s.components s.architectures)

@@ -22,10 +22,10 @@ use Rattle.rules.proofs.Configs.{is_config}
 use Rattle.suites.proofs.MovedEntries.{codenames_apart}
 use Rattle.sums.proofs.Booleans.{both, denied, neither, passed}
 use Rattle.sums.proofs.Members.{all_from, all_true, any_false, from_map, pairs_tail, there}
-use Rattle.texts.specs.Release.{index_path, is_source}
-use Rattle.texts.specs.Places.{place_at, place_path, places_in}
-use Rattle.texts.specs.declared.places.IndexPlace.{IndexPlace}
-use Rattle.texts.proofs.Pairs.{pairs_flat, pairs_map, pairs_none}
+use Rattle.indices.specs.Release.{index_path, is_source}
+use Rattle.indices.specs.Places.{place_at, place_path, places_in}
+use Rattle.indices.specs.declared.index.IndexPlace.{IndexPlace}
+use Rattle.indices.proofs.Pairs.{pairs_flat, pairs_map, pairs_none}
 
 -- ---- names without a slash
 

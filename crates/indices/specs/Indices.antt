@@ -3,7 +3,7 @@ use Rattle.std.specs.Prelude.{ℕ, ◌+◌, List, [], ◌∷◌, ◌++◌, map, 
 use Rattle.rules.specs.Values.{ConfigValue}
 use Rattle.rules.specs.declared.suite.Suite.{Suite}
 use Rattle.suites.specs.Shelves.{ShelvesValue}
-use Rattle.texts.specs.Release.{release_text, indices_of, listed_texts}
+use Rattle.indices.specs.Release.{release_text, indices_of, listed_texts}
 
 -- a path and the text there
 abbrev pub PathText : Type 0

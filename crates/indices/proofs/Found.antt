@@ -1,12 +1,12 @@
 -- Looking a path up in lists of texts.
-use Rattle.std.proofs.Common.{◌≡◌, ℕ, ◌+◌, ◌<◌, ◌≤◌, Bool, true, false, List, [], ◌∷◌, ◌++◌, length, drop, get_or, map, bytes_eq, nat_eq, refl, sym, ap, ◌∙◌, Option, Some, None, arith, ◌⊎◌, inl, inr, eqb}
+use Rattle.std.proofs.Common.{◌≡◌, ℕ, ◌+◌, ◌<◌, ◌≤◌, Bool, true, false, List, [], ◌∷◌, ◌++◌, length, drop, get_or, map, bytes_eq, refl, sym, ap, ◌∙◌, Option, Some, None, ◌⊎◌, inl, inr, eqb}
 use Rattle.std.specs.List.{flat_map, zip, starts_with}
 use Rattle.std.proofs.lemmas.List.{drop_more, drop_all}
-use Rattle.std.proofs.lemmas.Bool.Decides.{nat_tests}
+use Rattle.std.proofs.lemmas.Bool.{eq-eqb}
 use Rattle.sums.proofs.Agree.{same_bytes}
 use Rattle.rules.specs.declared.suite.Suite.{Suite}
 use Rattle.suites.specs.Shelves.{ShelvesValue}
-use Rattle.texts.specs.Indices.{PathText, text_at, suite_texts, texts_from}
+use Rattle.indices.specs.Indices.{PathText, text_at, suite_texts, texts_from}
 
 -- by whether the first of the texts stands at the path
 abbrev by_first : PathText → Option (List ℕ) → Bool → Option (List ℕ)
@@ -118,13 +118,9 @@ no_suite path shelves suites dates i (inr h) =
     sym (text_at-nil path) ∙ ap (λ (ps : List (Suite × ℕ)). text_at path (texts_from shelves i ps)) (sym (zip-nil (drop i suites)))
     ∙ ap (λ (ds : List ℕ). text_at path (texts_from shelves i (zip (drop i suites) ds))) (sym (drop_all i dates h))
 
--- A folder at the front of a path.
-same_byte : (c : ℕ) → nat_eq c c ≡ true
-same_byte c = grind (arith, nat_tests)
-
 same_front : (front a b : List ℕ) → bytes_eq (front ++ a) (front ++ b) ≡ bytes_eq a b
 same_front [] a b = refl
-same_front (c ∷ front) a b = rw (same_byte c) (same_front front a b)
+same_front (c ∷ front) a b = rw (eq-eqb c c refl) (same_front front a b)
 
 -- a text with the folder in front of its path
 abbrev pub behind : List ℕ → PathText → PathText
@@ -144,7 +140,7 @@ text_at-behind folder rest (e ∷ es) =
 
 starts_front : (front a : List ℕ) → starts_with eqb (front ++ a) front ≡ true
 starts_front [] a = refl
-starts_front (c ∷ front) a = rw (same_byte c) (starts_front front a)
+starts_front (c ∷ front) a = rw (eq-eqb c c refl) (starts_front front a)
 
 not_there : (folder path own : List ℕ) (b : Bool) → starts_with eqb path folder ≡ false → bytes_eq (folder ++ own) path ≡ b → b ≡ false
 not_there folder path own false h e = refl

@@ -3,8 +3,8 @@ use Rattle.std.proofs.Common.{◌≡◌, ◌≢◌, inl, inr, ℕ, Bool, true, f
 use Rattle.std.specs.Prelude.{AllPairs, Contains}
 use Rattle.std.proofs.lemmas.Slice.Eq.{bytes_eq-Decides}
 use Rattle.sums.proofs.Members.{here, there, which, no_member, all_at, pairs_head, pairs_tail}
-use Rattle.texts.specs.Indices.{PathText, text_at}
-use Rattle.texts.proofs.Found.{text_at-found, text_at-nil, text_at-other}
+use Rattle.indices.specs.Indices.{PathText, text_at}
+use Rattle.indices.proofs.Found.{text_at-found, text_at-nil, text_at-other}
 
 pub not_equal : (a b : List ℕ) → a ≢ b → bytes_eq a b ≡ false
 not_equal a b h = by_case (bytes_eq a b) refl

@@ -7,11 +7,11 @@ use Rattle.para.specs.Printing.{paragraph_text}
 use Rattle.sums.specs.Prints.{print}
 use Rattle.rules.specs.declared.suite.Suite.{Suite}
 use Rattle.suites.specs.Shelves.{ShelvesValue}
-use Rattle.texts.specs.declared.index.Index.{Index}
-use Rattle.texts.specs.declared.stanza.Digest.{Digest}
-use Rattle.texts.specs.declared.stanza.Digest.TheVariants.{Md5, Sha1, Sha256}
-use Rattle.texts.specs.Calendar.{date_text}
-use Rattle.texts.specs.Stanzas.{line_field, list_line, packages_text, sources_text}
+use Rattle.indices.specs.declared.index.Index.{Index}
+use Rattle.indices.specs.declared.index.Digest.{Digest}
+use Rattle.indices.specs.declared.index.Digest.TheVariants.{Md5, Sha1, Sha256}
+use Rattle.indices.specs.Calendar.{date_text}
+use Rattle.indices.specs.Stanzas.{line_field, list_line, packages_text, sources_text}
 
 -- the field, if there is a value for it
 unfoldable pub optional_field : List ℕ → Option (List ℕ) → Fields

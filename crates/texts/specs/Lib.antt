@@ -1,6 +1,0 @@
-pub mod Calendar
-pub mod Stanzas
-pub mod Release
-pub mod Positions
-pub mod Places
-pub mod Indices
