@@ -1,9 +1,9 @@
 -- A book whose parts are those after a change.
 use Rattle.std.proofs.Common.{◌≡◌, ℕ, List, ◌++◌, Option, ap, ◌∙◌}
 use Rattle.suites.specs.Shelves.{ShelvesValue}
-use Rattle.keep.specs.Book.{Book, amended, dates_past, files_showing, judgements, shown_past}
-use Rattle.keep.specs.declared.change.Change.{Change}
-use Rattle.keep.specs.declared.change.Judgement.{Judgement}
+use Rattle.book.specs.Book.{Book, amended, dates_past, files_showing, judgements, shown_past}
+use Rattle.book.specs.declared.change.Change.{Change}
+use Rattle.book.specs.declared.change.Judgement.{Judgement}
 
 pub amended_of : (book : Book) (change : Change) (judged : List Judgement) (shown : ShelvesValue) (files : List ℕ → Option (List ℕ)) (dates : List ℕ)
     → judged ≡ book.judged ++ judgements change.steps

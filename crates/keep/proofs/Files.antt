@@ -13,13 +13,14 @@ use Rattle.suites.specs.Keys.{text_order}
 use Rattle.suites.specs.KeyLemmas.{text_order_total}
 use Rattle.suites.specs.Pool.{files_of}
 use Rattle.suites.specs.Shelves.{ShelvesValue}
-use Rattle.keep.specs.Book.{files_showing, stored_body}
+use Rattle.suites.proofs.ListTests.{option_or_none}
+use Rattle.book.specs.Book.{files_showing, stored_body}
 use Rattle.keep.specs.Plain.{plain_book}
 use Rattle.keep.specs.Scan.{PoolHas, body_at, is_at, stored, stored_among}
-use Rattle.keep.specs.declared.arrival.Arrival.{Arrival}
+use Rattle.book.specs.declared.arrival.Arrival.{Arrival}
 use Rattle.keep.specs.declared.plain.PlainKeeper.{PlainKeeper}
 use Rattle.keep.specs.declared.pool.PoolBody.{PoolBody}
-use Rattle.keep.proofs.Finds.{none_is, option_or_none, none_of_map, some_kept}
+use Rattle.book.proofs.Finds.{none_is, none_of_map, some_kept}
 
 tie : (q path : List ℕ) → eq_by_cmp text_order q path ≡ bytes_eq path q
 tie q path = sym ((eq_by_cmp_equiv text_order_total).symm path q) ∙ is_eq-slice_cmp path q

@@ -1,17 +1,6 @@
-pub mod Dates
-pub mod Finds
 pub mod Files
 pub mod Unjudged
-pub mod Prints
-pub mod Arrivals
 pub mod UploadLemmas
 pub mod Amending
 pub mod Kept
-pub mod Signs
-pub mod Staying
-pub mod ReadLemmas
-pub mod Pieces
-pub mod Moments
 pub mod Searches
-pub mod Lists
-pub mod Lacks

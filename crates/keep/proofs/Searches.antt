@@ -1,9 +1,9 @@
 -- A search among the arrivals that count, one place further.
 use Rattle.std.proofs.Common.{◌≡◌, ℕ, ◌+◌, ◌<◌, Bool, true, false, cond, List, ◌∷◌, drop, get_or, length, find, Option, Some, ap, sym, ◌∙◌}
 use Rattle.std.proofs.lemmas.List.{drop_more}
-use Rattle.keep.specs.Book.{counts, current}
-use Rattle.keep.specs.declared.arrival.Arrival.{Arrival}
-use Rattle.keep.proofs.Moments.{current_more, current_passed}
+use Rattle.book.specs.Book.{counts, current}
+use Rattle.book.specs.declared.arrival.Arrival.{Arrival}
+use Rattle.book.proofs.Moments.{current_more, current_passed}
 
 -- the arrivals from a place on are the arrival there and those after it
 at : (arrivals : List Arrival) (i : ℕ) (a : Arrival) → i < length arrivals → a ≡ get_or arrivals i a → drop i arrivals ≡ a ∷ drop (i + 1) arrivals

@@ -5,11 +5,11 @@ use Rattle.std.specs.Option.{option_map}
 use Rattle.std.specs.Result.{result_ok}
 use Rattle.records.specs.Values.{ChangesValue}
 use Rattle.records.specs.Records.{changes_in}
-use Rattle.keep.specs.Book.{Candidate, candidate_of, candidates, in_order, is_judged, put_in_order}
+use Rattle.book.specs.Book.{Candidate, candidate_of, candidates, in_order, is_judged, put_in_order}
 use Rattle.sums.specs.FileNames.{is_changes_name}
 use Rattle.keep.specs.Scan.{has_judgement, unjudged_in}
-use Rattle.keep.specs.declared.arrival.Arrival.{Arrival}
-use Rattle.keep.specs.declared.change.Judgement.{Judgement}
+use Rattle.book.specs.declared.arrival.Arrival.{Arrival}
+use Rattle.book.specs.declared.change.Judgement.{Judgement}
 
 -- the list with one more candidate, if there is one
 abbrev pub with_candidate : Option Candidate → List Candidate → List Candidate

@@ -1,23 +1,20 @@
 -- The upload of a .changes all of whose files have arrived.
-use Rattle.std.proofs.Common.{◌≡◌, ℕ, Bool, true, false, ◌||◌, ◌&&◌, cond, if◌then◌else◌, List, [], ◌∷◌, map, get_or, find, zip, refl, ap, sym, ◌∙◌, subst, unwrap_or, All, bytes_eq, Some, Ok}
+use Rattle.std.proofs.Common.{◌≡◌, ℕ, true, false, ◌||◌, ◌&&◌, cond, if◌then◌else◌, List, [], ◌∷◌, map, get_or, find, zip, refl, ap, sym, ◌∙◌, subst, unwrap_or, All, bytes_eq, Some, Ok}
 use Rattle.std.proofs.lemmas.List.{length-map}
 use Rattle.std.proofs.lemmas.List.Elements.{All-map}
 use Rattle.std.proofs.lemmas.List.Sums.{AllPass-from_list_all}
 use Rattle.std.specs.List.{list_any}
 use Rattle.std.specs.Option.{option_map}
+use Rattle.std.proofs.lemmas.Bool.{and_parts}
 use Rattle.records.specs.Records.{changes_in}
 use Rattle.records.proofs.RecordRead.{changes_of_read}
 use Rattle.sums.specs.Prints.{print as print_of, same_print}
 use Rattle.sums.specs.declared.entries.Entry.{Entry}
 use Rattle.sums.specs.declared.print.Print.{Print}
 use Rattle.suites.specs.Upload.{IsUpload, IsTextOf, UploadValue, has_text}
-use Rattle.keep.specs.Book.{Candidate, body_for, is_body_of, is_complete, is_there, upload_of}
-use Rattle.keep.specs.declared.arrival.Arrival.{Arrival}
-use Rattle.keep.proofs.Prints.{same_print-Decides}
-
-both_true : (a b : Bool) → a && b ≡ true → b ≡ true
-both_true true b e = e
-both_true false b e = cc
+use Rattle.book.specs.Book.{Candidate, body_for, is_body_of, is_complete, is_there, upload_of}
+use Rattle.book.specs.declared.arrival.Arrival.{Arrival}
+use Rattle.book.proofs.Prints.{same_print-Decides}
 
 -- the body found for a file that has arrived has its print
 found_print : (entry : Entry) (arrivals : List Arrival) → list_any (is_body_of entry) arrivals ≡ true
@@ -27,7 +24,7 @@ found_print entry [] there = cc
 found_print entry (a ∷ arrivals) there =
     elim (bytes_eq a.name entry.name && same_print (print_of a.body) entry.print) as (λ b. bytes_eq a.name entry.name && same_print (print_of a.body) entry.print ≡ b → b || list_any (is_body_of entry) arrivals ≡ true
     → print_of (unwrap_or (option_map (λ a. a.body) (cond b (Some a) (find (is_body_of entry) arrivals))) []) ≡ entry.print) [
-      | true ↦ λ e there. (same_print-Decides (print_of a.body) entry.print).0 (both_true (bytes_eq a.name entry.name) (same_print (print_of a.body) entry.print) e)
+      | true ↦ λ e there. (same_print-Decides (print_of a.body) entry.print).0 (and_parts (bytes_eq a.name entry.name) (same_print (print_of a.body) entry.print) e).1
       | false ↦ λ e there. found_print entry arrivals there
     ] refl there
 

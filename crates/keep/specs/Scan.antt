@@ -1,5 +1,5 @@
 -- The words of the plain keeper's functions.
-use Rattle.std.specs.Prelude.{◌≡◌, ℕ, nat_eq, Bool, ◌&&◌, not, if◌then◌else◌, List, find, filter, bytes_eq, Option, Some, None}
+use Rattle.std.specs.Prelude.{◌≡◌, ℕ, Bool, ◌&&◌, not, if◌then◌else◌, List, find, filter, bytes_eq, Option, Some, None}
 use Rattle.std.specs.List.{list_any}
 use Rattle.std.specs.Option.{option_and_then, option_map, option_or}
 use Rattle.std.specs.Borrow.{Bor}
@@ -8,24 +8,17 @@ use Rattle.sums.specs.Prints.{print as print_of, same_print}
 use Rattle.sums.specs.declared.entries.Entry.{Entry}
 use Rattle.sums.specs.declared.print.Print.{Print}
 use Rattle.suites.specs.Keys.{text_order}
-use Rattle.suites.specs.declared.item.Item.{Item}
-use Rattle.suites.specs.declared.key.ShelfKey.{ShelfKey}
-use Rattle.keep.specs.Book as book
-use Rattle.keep.specs.Book.{at_latest, candidates, current, in_order, is_arrival_of, is_judged, touches}
-use Rattle.keep.specs.declared.arrival.Arrival.{Arrival}
-use Rattle.keep.specs.declared.arrival.Counting.{Counting}
-use Rattle.keep.specs.declared.change.Judgement.{Judgement}
-use Rattle.keep.specs.declared.change.Step.{Step}
+use Rattle.book.specs.Book as book
+use Rattle.book.specs.Book.{candidates, current, in_order, is_judged}
+use Rattle.book.specs.declared.arrival.Arrival.{Arrival}
+use Rattle.book.specs.declared.arrival.Counting.{Counting}
+use Rattle.book.specs.declared.change.Judgement.{Judgement}
 use Rattle.keep.specs.declared.pool.PoolBody.{PoolBody}
 use Rattle.keep.specs.declared.candidate.Candidate as scan
 
 -- the arrivals that count
 abbrev pub counted : Counting → List Arrival → List Arrival
 counted counting arrivals = current counting.span counting.moment arrivals
-
--- the arrival with the greater of its moment and this one, if it is of this name and print
-abbrev pub marked : List ℕ → Print → ℕ → Arrival → Arrival
-marked name print moment a = if is_arrival_of name print a then at_latest moment a else a
 
 -- a .changes as the book has it
 abbrev pub candidate_view : scan.Candidate → book.Candidate
@@ -65,11 +58,3 @@ stored arrivals old path print = record { path = path; body = stored_among arriv
 abbrev pub PoolHas : List Arrival → List PoolBody → List PoolBody → List (List ℕ × Print) → Type 0
 PoolHas arrivals old bodies files = (path : List ℕ)
     → find (is_at path) bodies ≡ option_map (stored arrivals old path) (find_tied text_order path files)
-
--- an entry of the list stands in the suite
-abbrev pub is_put_in : ℕ → List (ShelfKey × Item) → Bool
-is_put_in suite entries = list_any (λ e. nat_eq e.0.suite suite) entries
-
--- one of the steps changes what the suite shows
-abbrev pub some_touches : ℕ → List Step → Bool
-some_touches suite steps = list_any (λ step. touches suite step.plan) steps

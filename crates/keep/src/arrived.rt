@@ -1,23 +1,13 @@
-//! What has arrived, without its bytes. A reader who asks what an upload lacks gets this. The bytes of one body are read by a call of
-//! their own.
+//! What has arrived at the plain keeper, without its bytes, and the bytes of one body.
 
 ghost use Rattle.std.specs.Prelude.{◌≡◌, find, map, IfOk};
 ghost use Rattle.std.specs.Option.{option_map};
-ghost use Rattle.keep.specs.Book.{arrived_file, is_arrival_of};
+ghost use Rattle.book.specs.Book.{arrived_file, is_arrival_of};
 
-use crate::arrival::{Arrival, arrival_of};
-use para::Text;
+use crate::arrival::arrival_of;
+use book::{Arrival, ArrivedFile};
 use std::alloc::{AllocError, Global};
 use sums::Print;
-
-/// A file that has arrived and was not taken away: its name, the print of its body, and the greatest moment at which it was delivered, in
-/// seconds since 1970-01-01 00:00:00 UTC.
-#[derive(Drop)]
-pub struct ArrivedFile {
-    pub name: Text,
-    pub print: Print,
-    pub moment: u64,
-}
 
 /// An arrival without its bytes.
 fn arrived_file(arrival: &Arrival) -> Result<ArrivedFile, AllocError>

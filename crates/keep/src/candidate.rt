@@ -3,7 +3,7 @@
 ghost use Rattle.std.specs.Prelude.{◌≡◌, Ok};
 ghost use Rattle.records.specs.Records.{changes_in};
 
-use crate::arrival::Arrival;
+use book::Arrival;
 use records::Changes;
 
 /// A .changes that arrived: its arrival, and the record that its body is.

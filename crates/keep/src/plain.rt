@@ -3,26 +3,23 @@
 //! Index texts follow from the book, and are no field of it. Files are a field, since bodies outlive arrivals: a cleaning leaves the pool.
 
 ghost use Rattle.std.specs.Prelude.{◌≤◌, All, IfOk};
-ghost use Rattle.texts.specs.Calendar.{latest};
+ghost use Rattle.indices.specs.Calendar.{latest};
 
-use crate::arrival::{Arrival, Body, Counting, has_arrival, has_current, mark_all, remove_ended};
-use crate::arrived::{ArrivedFile, arrived_body, arrived_files};
-use crate::change::{Change, Judgement, Waiting};
-use crate::configured::Configured;
-use crate::fault::KeepFault;
-use crate::keeper::Keeper;
+use crate::arrival::{has_arrival, has_current, mark_all, remove_ended};
+use crate::arrived::{arrived_body, arrived_files};
 use crate::pool::{PoolBody, body_at_path, pool_bodies};
-use crate::printing::print_of_text;
-use crate::steps::{
-    append_judgements, copied_judgements, dates_after, room_for_judgements, shelves_after,
-};
+use crate::shelves::shelves_after;
 use crate::uploads::{complete_uploads, waiting_uploads};
+use book::{
+    Arrival, ArrivedFile, Body, Change, Configured, Counting, Judgement, KeepFault, Keeper, LATEST,
+    Waiting, append_judgements, copied_judgements, dates_after, print_of_text, room_for_judgements,
+};
 use para::Text;
 use rules::Config;
 use std::alloc::Global;
 use suites::{Shelves, Upload};
 use sums::{Print, print_of};
-use texts::{LATEST, index_text};
+use texts::index_text;
 
 /// A plain keeper. It refuses a call for want of memory alone.
 #[derive(Drop)]
@@ -41,8 +38,8 @@ pub struct PlainKeeper {
 
 impl PlainKeeper {
     ghost use Rattle.std.specs.Prelude.{◌≡◌, IfErr};
-    ghost use Rattle.keep.specs.Plain.{fresh_book};
-    ghost use Rattle.keep.specs.declared.fault.KeepFault.TheVariants.{OutOfMemory};
+    ghost use Rattle.book.specs.Book.{fresh_book};
+    ghost use Rattle.book.specs.declared.fault.KeepFault.TheVariants.{OutOfMemory};
 
     /// An archive of this configuration in which nothing is yet, made at the moment, in seconds since 1970-01-01
     /// 00:00:00 UTC.
@@ -138,7 +135,7 @@ impl Keeper for PlainKeeper {
         Ok(())
     }
 
-    #[tactic(auto, unfolding(crate::specs::Plain::plain_book, crate::specs::Book::due, crate::specs::Book::unjudged))]
+    #[tactic(auto, unfolding(crate::specs::Plain::plain_book, book::specs::Book::due, book::specs::Book::unjudged))]
     fn complete_uploads(&mut self, alloc: Global, moment: u64) -> Result<Vec<Upload>, KeepFault> {
         let counting = Counting::new(&self.config, moment);
         Ok(complete_uploads(alloc, &self.arrivals, counting, &self.judged)?)
@@ -206,7 +203,7 @@ impl Keeper for PlainKeeper {
         Ok(print_of_text(&text))
     }
 
-    #[tactic(auto, unfolding(crate::specs::Plain::plain_book, crate::specs::Book::waiting_list, crate::specs::Book::unjudged))]
+    #[tactic(auto, unfolding(crate::specs::Plain::plain_book, book::specs::Book::waiting_list, book::specs::Book::unjudged))]
     fn waiting(&mut self, alloc: Global, moment: u64) -> Result<Vec<Waiting>, KeepFault> {
         let counting = Counting::new(&self.config, moment);
         Ok(waiting_uploads(alloc, &self.arrivals, counting, &self.judged)?)

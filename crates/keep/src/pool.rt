@@ -7,7 +7,7 @@ ghost use Rattle.sums.specs.Prints.{print as print_of_body, same_print};
 ghost use Rattle.suites.specs.Pool.{files_of, pair_of};
 ghost use Rattle.keep.specs.Scan.{body_at, stored_among, PoolHas, is_at};
 
-use crate::arrival::{Arrival, Body};
+use book::{Arrival, Body};
 use para::Text;
 use std::alloc::{AllocError, Global};
 use suites::{PoolFile, Shelves};

@@ -6,13 +6,13 @@ ghost use Rattle.std.specs.Option.{option_map};
 ghost use Rattle.std.specs.Ordering.{is_gt};
 ghost use Rattle.suites.specs.Upload.{has_text as keeps_text};
 ghost use Rattle.sums.specs.FileNames.{is_changes_name as has_changes_name};
-ghost use Rattle.keep.specs.Book.{body_for, by_name, candidate_of, candidate_order, is_complete, is_there as has_come, judging_order as order_of, lack_of, lacks_of, put_by_name, put_in_order, upload_of as upload_at, waiting_of};
-ghost use Rattle.keep.specs.declared.arrival.Arrival.{Arrival as ArrivalValue};
+ghost use Rattle.book.specs.Book.{body_for, by_name, candidate_of, candidate_order, is_complete, is_there as has_come, lack_of, lacks_of, put_by_name, put_in_order, upload_of as upload_at, waiting_of};
+ghost use Rattle.book.specs.declared.arrival.Arrival.{Arrival as ArrivalValue};
 ghost use Rattle.keep.specs.Scan.{candidate_view, counted, entry_at, has_judgement, unjudged_in};
 
-use crate::arrival::{Arrival, Counting, current_arrival, has_arrival, has_current};
+use crate::arrival::{current_arrival, has_arrival, has_current};
 use crate::candidate::Candidate;
-use crate::change::{Judgement, Lack, Waiting};
+use book::{Arrival, Counting, Judgement, Lack, Waiting, judging_order};
 use para::Listed;
 use std::alloc::{AllocError, Global};
 use std::cmp::Ordering;
@@ -27,7 +27,7 @@ pub fn copied(alloc: Global, bytes: &[u8]) -> Result<Listed<u8>, AllocError>
 }
 
 /// Whether a body of the listed file has arrived and counts.
-#[tactic(auto, unfolding(crate::specs::Book::is_there, crate::specs::Book::is_body_of))]
+#[tactic(auto, unfolding(book::specs::Book::is_there, book::specs::Book::is_body_of))]
 fn is_there(arrivals: &[Arrival], counting: Counting, entry: &Entry) -> bool
     ensures { result ≡ has_come (counted counting arrivals.now) entry.now }
 {
@@ -64,7 +64,7 @@ fn by_name(alloc: Global, entries: &[Entry]) -> Result<Vec<&Entry>, AllocError>
 }
 
 /// What is said of a listed file of which no arrival counts.
-#[tactic(auto, unfolding(crate::specs::Book::is_there, crate::specs::Book::is_body_of))]
+#[tactic(auto, unfolding(book::specs::Book::is_there, book::specs::Book::is_body_of))]
 fn lack_of(arrivals: &[Arrival], entry: &Entry) -> Result<Lack, AllocError>
     ensures { IfOk result (λ lack. lack ≡ lack_of arrivals.now entry.now) }
 {
@@ -76,7 +76,7 @@ fn lack_of(arrivals: &[Arrival], entry: &Entry) -> Result<Lack, AllocError>
 }
 
 /// The listed files of which no arrival counts, in the order of their names.
-#[tactic(auto, unfolding(crate::specs::Book::lacks_of))]
+#[tactic(auto, unfolding(book::specs::Book::lacks_of))]
 fn lacks_of(
     alloc: Global,
     arrivals: &[Arrival],
@@ -136,7 +136,7 @@ fn is_changes(arrival: &Arrival) -> bool
 }
 
 /// The .changes that an arrival is, or nothing if the arrival is not one.
-#[tactic(auto, unfolding(crate::specs::Book::candidate_of))]
+#[tactic(auto, unfolding(book::specs::Book::candidate_of))]
 fn read_candidate(alloc: Global, arrival: &Arrival) -> Result<Option<Candidate<'_>>, AllocError>
     ensures { IfOk result (λ found. option_map candidate_view found ≡ candidate_of arrival.now) }
 {
@@ -147,19 +147,6 @@ fn read_candidate(alloc: Global, arrival: &Arrival) -> Result<Option<Candidate<'
         Some(changes) => Ok(Some(Candidate { arrival, changes })),
         None => Ok(None),
     }
-}
-
-/// The order of judging, of two uploads by the names and the prints of their .changes: by the bytes of the names, then by
-/// SHA-256, SHA-1, MD5 and size.
-#[tactic(auto, unfolding(crate::specs::Book::judging_order))]
-pub fn judging_order(name: &str, print: &Print, other_name: &str, other_print: &Print) -> Ordering
-    ensures { result ≡ order_of (name.now, print.now) (other_name.now, other_print.now) }
-{
-    name.cmp(other_name)
-        .then(print.sha256.cmp(&other_print.sha256))
-        .then(print.sha1.cmp(&other_print.sha1))
-        .then(print.md5.cmp(&other_print.md5))
-        .then(print.size.cmp(&other_print.size))
 }
 
 /// The order of judging of two .changes that arrived.
@@ -218,7 +205,7 @@ fn add_unjudged<'a>(
 }
 
 /// The uploads without a verdict whose .changes counts, in the order of judging.
-#[tactic(auto, unfolding(crate::specs::Book::current))]
+#[tactic(auto, unfolding(book::specs::Book::current))]
 fn unjudged<'a>(
     alloc: Global,
     arrivals: &'a [Arrival],
@@ -237,7 +224,7 @@ fn unjudged<'a>(
 }
 
 /// The text that an upload keeps of a listed file: the body that arrived, of a .dsc or a sidecar.
-#[tactic(auto, unfolding(crate::specs::Book::body_for, crate::specs::Book::is_body_of))]
+#[tactic(auto, unfolding(book::specs::Book::body_for, book::specs::Book::is_body_of))]
 fn kept_text(
     alloc: Global,
     arrivals: &[Arrival],

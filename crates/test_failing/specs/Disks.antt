@@ -1,6 +1,6 @@
 -- What is on a disk.
 use Rattle.std.specs.Prelude.{Bool, true, false, Option, Some, None}
-use Rattle.keep.specs.Book.{Book}
+use Rattle.book.specs.Book.{Book}
 
 -- the book, or no archive if a delivery was cut off
 abbrev pub left_of : Bool → Book → Option Book

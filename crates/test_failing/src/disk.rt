@@ -1,11 +1,10 @@
 //! A keeper over a disk that fails if it has to.
 
 ghost use Rattle.std.specs.Prelude.{◌≡◌, ◌≤◌, false, IsTrue, IfOk};
-ghost use Rattle.keep.specs.Plain.{fresh_book};
+ghost use Rattle.book.specs.Book.{fresh_book};
 
-use keep::{
-    ArrivedFile, Change, Configured, Judgement, KeepFault, Keeper, LATEST, PlainKeeper, Waiting,
-};
+use book::{ArrivedFile, Change, Configured, Judgement, KeepFault, Keeper, LATEST, Waiting};
+use keep::PlainKeeper;
 use rules::Config;
 use std::alloc::Global;
 use suites::{Shelves, Upload};

@@ -1,5 +1,5 @@
 use Rattle.std.proofs.Common.{◌≡◌, drop, find}
-use Rattle.keep.specs.Book.{is_arrival_of}
+use Rattle.book.specs.Book.{is_arrival_of}
 use Rattle.keep.proofs.arrival.arrival_of.Given as goal
 
 abbrev pub invariant-loop-arrival : goal.invariant-loop-arrival

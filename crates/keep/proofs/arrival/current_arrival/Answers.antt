@@ -1,5 +1,5 @@
 use Rattle.std.proofs.Common.{sym, ◌∙◌}
-use Rattle.keep.specs.Book.{is_arrival_of}
+use Rattle.book.specs.Book.{is_arrival_of}
 use Rattle.keep.proofs.Searches.{is_found, is_other, passed_over}
 use Rattle.keep.proofs.arrival.current_arrival.Goals as goal
 

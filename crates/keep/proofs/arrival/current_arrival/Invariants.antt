@@ -1,5 +1,5 @@
 use Rattle.std.proofs.Common.{◌≡◌, drop, find}
-use Rattle.keep.specs.Book.{is_arrival_of}
+use Rattle.book.specs.Book.{is_arrival_of}
 use Rattle.keep.specs.Scan.{counted}
 use Rattle.keep.proofs.arrival.current_arrival.Given as goal
 

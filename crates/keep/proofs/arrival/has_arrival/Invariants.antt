@@ -1,6 +1,6 @@
 use Rattle.std.proofs.Common.{◌≡◌, drop}
 use Rattle.std.specs.List.{list_any}
-use Rattle.keep.specs.Book.{is_arrival_of}
+use Rattle.book.specs.Book.{is_arrival_of}
 use Rattle.keep.proofs.arrival.has_arrival.Given as goal
 
 abbrev pub invariant-loop-arrival : goal.invariant-loop-arrival

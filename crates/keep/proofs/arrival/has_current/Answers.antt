@@ -1,7 +1,7 @@
 use Rattle.std.proofs.Common.{ap, ◌∙◌, is_some}
-use Rattle.keep.specs.Book.{is_arrival_of}
+use Rattle.book.specs.Book.{is_arrival_of}
 use Rattle.keep.specs.Scan.{counted}
-use Rattle.keep.proofs.Finds.{is_some_copied, is_some_of_find}
+use Rattle.book.proofs.Finds.{is_some_copied, is_some_of_find}
 use Rattle.keep.proofs.arrival.has_current.Goals as goal
 
 pub returns : goal.returns

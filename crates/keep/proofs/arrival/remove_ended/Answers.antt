@@ -1,6 +1,6 @@
 use Rattle.std.proofs.Common.{rules}
 use Rattle.std.proofs.lemmas.Fn.{filter_same}
-use Rattle.keep.specs.Book.{current}
+use Rattle.book.specs.Book.{current}
 use Rattle.keep.proofs.arrival.remove_ended.Goals as goal
 
 pub returns-clause-left : goal.returns-clause-left

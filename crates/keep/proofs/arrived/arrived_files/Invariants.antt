@@ -1,5 +1,5 @@
 use Rattle.std.proofs.Common.{◌≡◌, map, take}
-use Rattle.keep.specs.Book.{arrived_file}
+use Rattle.book.specs.Book.{arrived_file}
 use Rattle.keep.proofs.arrived.arrived_files.Given as goal
 
 abbrev pub invariant-loop-arrival : goal.invariant-loop-arrival

@@ -1,7 +1,7 @@
 use Rattle.std.proofs.Common.{◌≡◌, ℕ, true, false, List, ◌++◌, ◌∷◌, [], Option, ap, ◌∙◌, sym, subst, is_some, not, find}
 use Rattle.keep.specs.Scan.{is_at, stored, PoolHas, stored_among}
 use Rattle.keep.specs.declared.pool.PoolBody.{PoolBody}
-use Rattle.keep.proofs.Finds.{is_some_copied}
+use Rattle.book.proofs.Finds.{is_some_copied}
 use Rattle.keep.proofs.Files.{has_put, has_passed}
 use Rattle.keep.proofs.pool.add_file.Goals as goal
 

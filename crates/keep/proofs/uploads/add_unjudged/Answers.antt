@@ -1,9 +1,9 @@
 use Rattle.std.proofs.Common.{◌≡◌, ◌++◌, ◌∷◌, map, take, drop, ap, ◌∙◌, sym, subst}
 use Rattle.std.proofs.lemmas.List.{map-append}
 use Rattle.std.specs.Option.{option_map}
-use Rattle.keep.specs.Book.{put_in_order}
+use Rattle.book.specs.Book.{put_in_order}
 use Rattle.keep.specs.Scan.{candidate_view, counted, unjudged_in}
-use Rattle.keep.proofs.Moments.{current_more, current_passed}
+use Rattle.book.proofs.Moments.{current_more, current_passed}
 use Rattle.keep.proofs.Unjudged.{unjudged_other, unjudged_passed, unjudged_more, with_candidate}
 use Rattle.keep.proofs.uploads.add_unjudged.Goals as goal
 

@@ -1,6 +1,6 @@
 use Rattle.std.proofs.Common.{◌≡◌, drop}
 use Rattle.std.specs.List.{list_all}
-use Rattle.keep.specs.Book.{is_there}
+use Rattle.book.specs.Book.{is_there}
 use Rattle.keep.specs.Scan.{counted}
 use Rattle.keep.proofs.uploads.are_there.Given as goal
 

@@ -1,7 +1,7 @@
 use Rattle.std.proofs.Common.{◌≡◌, ℕ, ◌<◌, ◌+◌, ◌-◌, ◌∷◌, ◌++◌, List, map, take, drop, get_or, length, ap, ◌∙◌, sym, subst, arith}
 use Rattle.std.proofs.lemmas.List.{drop_more, map-append}
 use Rattle.sums.specs.declared.entries.Entry.{Entry}
-use Rattle.keep.specs.Book.{by_name, put_by_name}
+use Rattle.book.specs.Book.{by_name, put_by_name}
 use Rattle.keep.specs.Scan.{entry_at}
 use Rattle.keep.proofs.uploads.by_name.Goals as goal
 

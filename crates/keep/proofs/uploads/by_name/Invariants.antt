@@ -1,5 +1,5 @@
 use Rattle.std.proofs.Common.{◌≡◌, ◌≤◌, length, map, drop}
-use Rattle.keep.specs.Book.{by_name}
+use Rattle.book.specs.Book.{by_name}
 use Rattle.keep.specs.Scan.{entry_at}
 use Rattle.keep.proofs.uploads.by_name.Given as goal
 

@@ -1,7 +1,7 @@
 use Rattle.std.proofs.Common.{◌∷◌, ◌++◌, [], map, filter, ap, ◌∙◌, sym}
 use Rattle.std.proofs.lemmas.List.{map-append}
 use Rattle.std.specs.List.{list_all}
-use Rattle.keep.specs.Book.{is_complete, is_there, upload_of}
+use Rattle.book.specs.Book.{is_complete, is_there, upload_of}
 use Rattle.keep.specs.Scan.{candidate_view, counted}
 use Rattle.keep.proofs.Kept.{kept_more, left_more}
 use Rattle.keep.proofs.uploads.complete_uploads.Goals as goal

@@ -1,5 +1,5 @@
 use Rattle.std.proofs.Common.{◌≡◌, map, filter}
-use Rattle.keep.specs.Book.{is_complete, upload_of}
+use Rattle.book.specs.Book.{is_complete, upload_of}
 use Rattle.keep.specs.Scan.{candidate_view, counted}
 use Rattle.keep.proofs.uploads.complete_uploads.Given as goal
 

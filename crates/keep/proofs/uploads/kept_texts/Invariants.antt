@@ -1,6 +1,6 @@
 use Rattle.std.specs.Prelude.{◌≡◌, [], map, take, if◌then◌else◌}
 use Rattle.suites.specs.Upload.{has_text}
-use Rattle.keep.specs.Book.{body_for}
+use Rattle.book.specs.Book.{body_for}
 use Rattle.keep.specs.Scan.{counted}
 use Rattle.keep.proofs.uploads.kept_texts.Given as goal
 

@@ -1,5 +1,5 @@
 use Rattle.std.proofs.Common.{◌≡◌, not, filter, map}
-use Rattle.keep.specs.Book.{is_there, lack_of}
+use Rattle.book.specs.Book.{is_there, lack_of}
 use Rattle.keep.specs.Scan.{counted, entry_at}
 use Rattle.keep.proofs.uploads.lacks_of.Given as goal
 

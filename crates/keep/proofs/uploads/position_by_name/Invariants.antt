@@ -1,5 +1,5 @@
 use Rattle.std.proofs.Common.{◌≡◌, ◌++◌, map, take, drop}
-use Rattle.keep.specs.Book.{put_by_name}
+use Rattle.book.specs.Book.{put_by_name}
 use Rattle.keep.specs.Scan.{entry_at}
 use Rattle.keep.proofs.uploads.position_by_name.Given as goal
 

@@ -1,5 +1,5 @@
 use Rattle.std.proofs.Common.{◌≡◌, ◌++◌, map, take, drop}
-use Rattle.keep.specs.Book.{put_in_order}
+use Rattle.book.specs.Book.{put_in_order}
 use Rattle.keep.specs.Scan.{candidate_view}
 use Rattle.keep.proofs.uploads.position_in_order.Given as goal
 

@@ -1,7 +1,7 @@
 use Rattle.std.proofs.Common.{◌≡◌, ℕ, ◌<◌, ◌+◌, ◌-◌, ◌∷◌, List, drop, get_or, length, ap, ◌∙◌, sym, arith}
 use Rattle.std.proofs.lemmas.List.{drop_more}
 use Rattle.keep.specs.Scan.{counted, unjudged_in}
-use Rattle.keep.specs.declared.arrival.Arrival.{Arrival}
+use Rattle.book.specs.declared.arrival.Arrival.{Arrival}
 use Rattle.keep.proofs.uploads.unjudged.Goals as goal
 
 -- the arrivals from one place earlier on

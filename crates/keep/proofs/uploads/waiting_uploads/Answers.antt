@@ -1,8 +1,8 @@
 use Rattle.std.proofs.Common.{◌≡◌, ◌∷◌, ◌++◌, [], map, take, ap, ◌∙◌, sym}
 use Rattle.std.proofs.lemmas.List.{map-append, take_more}
-use Rattle.keep.specs.Book.{lacks_of, waiting_of}
+use Rattle.book.specs.Book.{lacks_of, waiting_of}
 use Rattle.keep.specs.Scan.{candidate_view, counted}
-use Rattle.keep.specs.declared.change.Waiting.{Waiting}
+use Rattle.book.specs.declared.change.Waiting.{Waiting}
 use Rattle.keep.proofs.uploads.waiting_uploads.Goals as goal
 
 pub loop-candidate-preserved : goal.loop-candidate-preserved

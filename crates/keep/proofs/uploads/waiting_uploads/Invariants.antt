@@ -1,5 +1,5 @@
 use Rattle.std.proofs.Common.{◌≡◌, map, take}
-use Rattle.keep.specs.Book.{waiting_of}
+use Rattle.book.specs.Book.{waiting_of}
 use Rattle.keep.specs.Scan.{candidate_view, counted}
 use Rattle.keep.proofs.uploads.waiting_uploads.Given as goal
 

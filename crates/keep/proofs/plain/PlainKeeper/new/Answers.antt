@@ -1,11 +1,12 @@
 use Rattle.std.proofs.Common.{ℕ, List, [], Option, None, length, replicate, ap, ◌∙◌}
 use Rattle.std.specs.FinMap.{empty}
 use Rattle.suites.specs.Shelves.{ShelvesValue}
-use Rattle.keep.specs.Book.{Book}
-use Rattle.keep.specs.Plain.{plain_book, fresh_book}
+use Rattle.book.specs.Book.{Book}
+use Rattle.book.specs.Book.{fresh_book}
+use Rattle.keep.specs.Plain.{plain_book}
 use Rattle.keep.specs.Scan.{body_at}
-use Rattle.keep.specs.declared.arrival.Arrival.{Arrival}
-use Rattle.keep.specs.declared.change.Judgement.{Judgement}
+use Rattle.book.specs.declared.arrival.Arrival.{Arrival}
+use Rattle.book.specs.declared.change.Judgement.{Judgement}
 use Rattle.keep.proofs.plain.PlainKeeper.new.Goals as goal
 
 pub returns-clause-made : goal.returns-clause-made

@@ -3,14 +3,14 @@ use Rattle.std.proofs.Props.{props}
 use Rattle.std.proofs.Math.Logic.{∥∥₁_elim}
 use Rattle.suites.specs.Pool.{files_of}
 use Rattle.std.specs.FinMap.{values}
-use Rattle.keep.specs.Book.{Book, dates_past, judgements, latest, shown_past}
-use Rattle.keep.specs.Keeping.{AreSteps}
+use Rattle.book.specs.Book.{Book, dates_past, judgements, latest, shown_past}
+use Rattle.book.specs.Keeping.{AreSteps}
 use Rattle.keep.specs.Plain.{plain_book}
 use Rattle.keep.specs.Scan.{PoolHas}
-use Rattle.keep.specs.declared.change.Judgement.{Judgement}
+use Rattle.book.specs.declared.change.Judgement.{Judgement}
 use Rattle.keep.proofs.Amending.{amended_of}
 use Rattle.keep.proofs.Files.{files_kept}
-use Rattle.keep.proofs.Staying.{on_err}
+use Rattle.book.proofs.Staying.{on_err}
 use Rattle.keep.proofs.plain.PlainKeeperKeeper.apply.Goals as goal
 
 pub shelves_after-requires : goal.shelves_after-requires

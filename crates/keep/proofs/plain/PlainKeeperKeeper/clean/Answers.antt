@@ -1,9 +1,9 @@
 use Rattle.std.proofs.Common.{List, length, ap, ◌∙◌}
-use Rattle.keep.specs.Book.{Book, at_moment, ended}
+use Rattle.book.specs.Book.{Book, at_moment, ended}
 use Rattle.keep.specs.Plain.{plain_book}
 use Rattle.keep.specs.Scan.{counted}
-use Rattle.keep.specs.declared.arrival.Arrival.{Arrival}
-use Rattle.keep.specs.declared.arrival.Counting.{Counting}
+use Rattle.book.specs.declared.arrival.Arrival.{Arrival}
+use Rattle.book.specs.declared.arrival.Counting.{Counting}
 use Rattle.keep.proofs.plain.PlainKeeperKeeper.clean.Goals as goal
 
 pub returns-clause-count : goal.returns-clause-count

@@ -1,12 +1,12 @@
 use Rattle.std.proofs.Common.{List, map, filter, ap, ◌∙◌}
 use Rattle.suites.specs.Upload.{UploadValue}
-use Rattle.keep.specs.Book.{at_moment, due, is_complete, span, unjudged, upload_of}
+use Rattle.book.specs.Book.{at_moment, due, is_complete, span, unjudged, upload_of}
 use Rattle.keep.specs.Plain.{plain_book}
 use Rattle.keep.specs.Scan.{counted, unjudged_in}
-use Rattle.keep.specs.declared.arrival.Arrival.{Arrival}
-use Rattle.keep.specs.declared.arrival.Counting.{Counting}
-use Rattle.keep.specs.declared.change.Judgement.{Judgement}
-use Rattle.keep.proofs.Signs.{signs_of}
+use Rattle.book.specs.declared.arrival.Arrival.{Arrival}
+use Rattle.book.specs.declared.arrival.Counting.{Counting}
+use Rattle.book.specs.declared.change.Judgement.{Judgement}
+use Rattle.book.proofs.Signs.{signs_of}
 use Rattle.keep.proofs.plain.PlainKeeperKeeper.complete_uploads.Goals as goal
 
 pub returns-clause-signs : goal.returns-clause-signs

@@ -5,14 +5,15 @@ use Rattle.std.specs.declared.alloc.Global.{Global}
 use Rattle.std.proofs.lemmas.List.{with_items_is, length-map}
 use Rattle.std.proofs.lemmas.Option.{same_Some}
 use Rattle.sums.specs.Prints.{print as print_of}
-use Rattle.keep.specs.Book.{Book, at_moment, span}
+use Rattle.book.specs.Book.{Book, at_moment, span}
 use Rattle.keep.specs.Plain.{plain_book}
-use Rattle.keep.specs.Scan.{counted, marked}
-use Rattle.keep.specs.declared.arrival.Arrival.{Arrival}
-use Rattle.keep.specs.declared.arrival.Counting.{Counting}
-use Rattle.keep.proofs.Arrivals.{Apart, apart_part, by_print, new_by_print, with_known, with_new}
-use Rattle.keep.proofs.Moments.{current-part}
-use Rattle.keep.proofs.Staying.{on_err}
+use Rattle.book.specs.Scan.{marked}
+use Rattle.keep.specs.Scan.{counted}
+use Rattle.book.specs.declared.arrival.Arrival.{Arrival}
+use Rattle.book.specs.declared.arrival.Counting.{Counting}
+use Rattle.book.proofs.Arrivals.{Apart, apart_part, by_print, new_by_print, with_known, with_new}
+use Rattle.book.proofs.Moments.{current-part}
+use Rattle.book.proofs.Staying.{on_err}
 use Rattle.keep.proofs.plain.PlainKeeperKeeper.finish.Goals as goal
 
 -- the body that is coming

@@ -1,7 +1,7 @@
 use Rattle.std.proofs.Common.{ap, ◌∙◌}
 use Rattle.std.specs.Option.{option_map}
 use Rattle.sums.specs.Prints.{print}
-use Rattle.texts.specs.Indices.{index_text}
+use Rattle.indices.specs.Indices.{index_text}
 use Rattle.keep.specs.Plain.{plain_book}
 use Rattle.keep.proofs.plain.PlainKeeperKeeper.text_print.Goals as goal
 

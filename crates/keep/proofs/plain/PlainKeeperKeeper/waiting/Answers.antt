@@ -1,11 +1,11 @@
 use Rattle.std.proofs.Common.{List, map, ap, ◌∙◌}
-use Rattle.keep.specs.Book.{at_moment, span, unjudged, waiting_list, waiting_of}
+use Rattle.book.specs.Book.{at_moment, span, unjudged, waiting_list, waiting_of}
 use Rattle.keep.specs.Plain.{plain_book}
 use Rattle.keep.specs.Scan.{counted, unjudged_in}
-use Rattle.keep.specs.declared.arrival.Arrival.{Arrival}
-use Rattle.keep.specs.declared.arrival.Counting.{Counting}
-use Rattle.keep.specs.declared.change.Judgement.{Judgement}
-use Rattle.keep.specs.declared.change.Waiting.{Waiting}
+use Rattle.book.specs.declared.arrival.Arrival.{Arrival}
+use Rattle.book.specs.declared.arrival.Counting.{Counting}
+use Rattle.book.specs.declared.change.Judgement.{Judgement}
+use Rattle.book.specs.declared.change.Waiting.{Waiting}
 use Rattle.keep.proofs.plain.PlainKeeperKeeper.waiting.Goals as goal
 
 pub returns-clause-waiting : goal.returns-clause-waiting
