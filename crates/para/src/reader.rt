@@ -37,6 +37,9 @@ pub struct Reader<'a> {
 /// from there on it is looked up, so that a text of many fields is read as quickly.
 const FEW: usize = 16;
 
+/// The number of fields for which the first paragraph of a text gets room at once. It grows if it has more.
+const USUAL_FIELDS: usize = 16;
+
 /// The names of fields, in lower case.
 fn lower_names(alloc: Global, fields: &[Field<'_>]) -> Result<BTreeSet<String>, AllocError>
     ensures { IfOk result (λ names. AreLowered names (map (λ f. f.name) (field_values fields.now))) }
@@ -179,6 +182,9 @@ impl<'a> Reader<'a> {
     {
         if let Some(mut field) = self.current.take() {
             trim_last_line(&mut field);
+            if self.paragraphs.is_empty() && self.fields.is_empty() {
+                self.fields.reserve(USUAL_FIELDS)?;
+            }
             self.fields.push(field)?;
         }
         Ok(())

@@ -1,5 +1,5 @@
 -- Why a text is not a record: each fault's number and its text.
-use Rattle.std.specs.Prelude.{ℕ, List, ◌++◌, codes}
+use Rattle.std.specs.Prelude.{ℕ, List, [], ◌++◌, codes, decimal}
 use Rattle.para.specs.Fault as paragraph
 use Rattle.vers.specs.Fault as version
 use Rattle.sums.specs.Fault as lists
@@ -27,19 +27,17 @@ fault_number Distribution = 8
 fault_number (Lists fault) = 9
 fault_number OwnField = 10
 
--- a fault's text: its letter and its number, then after a space the fault of a part, or the name of the field that is missing
+-- after a space, the fault of a part, or the name of the field that is missing
+abbrev pub cause_text : RecordFault → List ℕ
+cause_text (Paragraph fault) = codes " " ++ paragraph.fault_text fault
+cause_text (Missing name) = codes " " ++ name_of name
+cause_text (Version fault) = codes " " ++ version.fault_text fault
+cause_text (Lists fault) = codes " " ++ lists.fault_text fault
+cause_text _ = []
+
+-- a fault's text: the letter C, its number and the cause
 abbrev pub fault_text : RecordFault → List ℕ
-fault_text OutOfMemory = codes "C0"
-fault_text (Paragraph fault) = codes "C1 " ++ paragraph.fault_text fault
-fault_text (Missing name) = codes "C2 " ++ name_of name
-fault_text NotOneLine = codes "C3"
-fault_text Format = codes "C4"
-fault_text Name = codes "C5"
-fault_text (Version fault) = codes "C6 " ++ version.fault_text fault
-fault_text Architecture = codes "C7"
-fault_text Distribution = codes "C8"
-fault_text (Lists fault) = codes "C9 " ++ lists.fault_text fault
-fault_text OwnField = codes "C10"
+fault_text fault = codes "C" ++ decimal (fault_number fault) ++ cause_text fault
 
 -- Want of memory in reading a part is want of memory in reading the record.
 abbrev pub of_paragraph : ParaFault → RecordFault

@@ -64,18 +64,13 @@ impl fmt::Display for RecordFault {
     ghost output = { λ fault. Some (fault_text fault) };
 
     fn fmt<W: fmt::Write>(&self, f: &mut fmt::Formatter<W>) -> fmt::Result {
+        let number = self.number();
         match self {
-            RecordFault::OutOfMemory => f.write_str("C0"),
-            RecordFault::Paragraph(fault) => write!(f, "C1 {fault}"),
-            RecordFault::Missing(name) => write!(f, "C2 {}", name.name()),
-            RecordFault::NotOneLine => f.write_str("C3"),
-            RecordFault::Format => f.write_str("C4"),
-            RecordFault::Name => f.write_str("C5"),
-            RecordFault::Version(fault) => write!(f, "C6 {fault}"),
-            RecordFault::Architecture => f.write_str("C7"),
-            RecordFault::Distribution => f.write_str("C8"),
-            RecordFault::Lists(fault) => write!(f, "C9 {fault}"),
-            RecordFault::OwnField => f.write_str("C10"),
+            RecordFault::Paragraph(fault) => write!(f, "C{number} {fault}"),
+            RecordFault::Missing(name) => write!(f, "C{number} {}", name.name()),
+            RecordFault::Version(fault) => write!(f, "C{number} {fault}"),
+            RecordFault::Lists(fault) => write!(f, "C{number} {fault}"),
+            _ => write!(f, "C{number}"),
         }
     }
 }

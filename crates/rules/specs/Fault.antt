@@ -1,5 +1,5 @@
 -- Why a text is not a configuration: each fault's number and its text.
-use Rattle.std.specs.Prelude.{ℕ, List, ◌++◌, codes}
+use Rattle.std.specs.Prelude.{ℕ, List, [], ◌++◌, codes, decimal}
 use Rattle.para.specs.Fault as paragraph
 use Rattle.para.specs.declared.fault.ParaFault.{ParaFault}
 use Rattle.para.specs.declared.fault.ParaFault.TheVariants as para_faults
@@ -16,15 +16,14 @@ fault_number ClaimedTwice = 4
 fault_number BadRule = 5
 fault_number Limits = 6
 
--- a fault's text: its letter and its number, then after a space the fault of the paragraphs
+-- after a space, the fault of the paragraphs
+abbrev pub cause_text : ConfigFault → List ℕ
+cause_text (Paragraph fault) = codes " " ++ paragraph.fault_text fault
+cause_text _ = []
+
+-- a fault's text: the letter F, its number and the cause
 abbrev pub fault_text : ConfigFault → List ℕ
-fault_text OutOfMemory = codes "F0"
-fault_text (Paragraph fault) = codes "F1 " ++ paragraph.fault_text fault
-fault_text Missing = codes "F2"
-fault_text BadValue = codes "F3"
-fault_text ClaimedTwice = codes "F4"
-fault_text BadRule = codes "F5"
-fault_text Limits = codes "F6"
+fault_text fault = codes "F" ++ decimal (fault_number fault) ++ cause_text fault
 
 -- Want of memory in reading the paragraphs is want of memory in reading the configuration.
 abbrev pub of_paragraph : ParaFault → ConfigFault

@@ -54,14 +54,10 @@ impl fmt::Display for ConfigFault {
     ghost output = { λ fault. Some (fault_text fault) };
 
     fn fmt<W: fmt::Write>(&self, f: &mut fmt::Formatter<W>) -> fmt::Result {
+        let number = self.number();
         match self {
-            ConfigFault::OutOfMemory => f.write_str("F0"),
-            ConfigFault::Paragraph(fault) => write!(f, "F1 {fault}"),
-            ConfigFault::Missing => f.write_str("F2"),
-            ConfigFault::BadValue => f.write_str("F3"),
-            ConfigFault::ClaimedTwice => f.write_str("F4"),
-            ConfigFault::BadRule => f.write_str("F5"),
-            ConfigFault::Limits => f.write_str("F6"),
+            ConfigFault::Paragraph(fault) => write!(f, "F{number} {fault}"),
+            _ => write!(f, "F{number}"),
         }
     }
 }

@@ -12,6 +12,7 @@ use Rattle.std.specs.FinMap.Entries.{below_all, find-append}
 use Rattle.std.proofs.lemmas.List.{map-append}
 use Rattle.std.proofs.lemmas.Grind.{flat_map-append}
 use Rattle.std.proofs.lemmas.List.Elements.{filter-append, recursion_from_All}
+use Rattle.std.proofs.lemmas.Option.{same_Some}
 use Rattle.vers.proofs.Laws.{version_cmp_total}
 use Rattle.suites.specs.Admission.{arriving, standing_at, replaced}
 use Rattle.suites.specs.Change.{IsChange}
@@ -179,14 +180,11 @@ module _ {X : Type 0} (version : X → List ℕ) where
   is_other None shown x e same = cc
   is_other (Some v) shown x e same = by_case (reached v shown) refl
     where
-      some_same : (y z : X) → Some y ≡ Some z → y ≡ z
-      some_same y z f = cc
-
       by_case : (r : Bool) → reached v shown ≡ r → ⊥
       by_case true r = (let none : cond (is_some (cond (reached v shown) None (Some v))) shown None ≡ None = ap (λ r. cond (is_some (cond r None (Some v))) shown None) r in cc)
       by_case false r =
           let dropped : shown ≡ Some x = sym (ap (λ r. cond (is_some (cond r None (Some v))) shown None) r) ∙ e in
-          let put : v ≡ x = some_same v x (sym (ap (λ r. cond r shown (Some v)) r) ∙ same) in
+          let put : v ≡ x = same_Some v x (sym (ap (λ r. cond r shown (Some v)) r) ∙ same) in
           let yes : reached v shown ≡ true = ap (reached v) dropped ∙ ap (λ y. is_at_least (version y) (version v)) (sym put) ∙ at_least-itself (version v) in
           cc
 

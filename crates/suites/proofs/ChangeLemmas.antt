@@ -6,6 +6,7 @@ use Rattle.std.specs.Ordering.{eq_by_cmp}
 use Rattle.std.specs.Cmp.{IsTotalOrder, eq_by_cmp_equiv}
 use Rattle.std.specs.FinMap.{FinMap, get, insert, remove, get-insert, get-remove, same_map, IsAntisymmetric}
 use Rattle.std.proofs.lemmas.List.Elements.{All-cons, All-nil}
+use Rattle.std.proofs.lemmas.Option.{same_Some}
 use Rattle.suites.specs.Change.{IsChange, without, with_all}
 
 one : {E : Type 0} (P : E → Type 0) (x : E) → P x → All P (x ∷ [])
@@ -41,10 +42,7 @@ module _ {K X : Type 0} {R : K → K → Ordering} (o : IsTotalOrder R) (same : 
         ∙ ap (cond (eq_by_cmp R q k) (Some x)) (sym (get-remove o m k q))
         ∙ sym (get-insert o (remove m k) k x q));
     absent = one (λ e. get (without m ((k, y) ∷ [])) e.0 ≡ None) (k, x) (get-remove o m k k ∙ ap (λ b. cond b None (get m k)) (itself o k));
-    gone = one (λ e. (get m e.0 ≡ Some e.1) × (get (insert m k x) e.0 ≢ Some e.1)) (k, y) (there, λ e. other (some_same (sym (get-insert o m k x k ∙ ap (λ b. cond b (Some x) (get m k)) (itself o k)) ∙ e)));
+    gone = one (λ e. (get m e.0 ≡ Some e.1) × (get (insert m k x) e.0 ≢ Some e.1)) (k, y) (there, λ e. other (same_Some x y (sym (get-insert o m k x k ∙ ap (λ b. cond b (Some x) (get m k)) (itself o k)) ∙ e)));
     put_in_order = tt;
     dropped_in_order = tt;
   }
-    where
-      some_same : Some x ≡ Some y → x ≡ y
-      some_same e = cc

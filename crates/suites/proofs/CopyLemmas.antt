@@ -5,11 +5,11 @@ use Rattle.std.specs.List.{flat_map}
 use Rattle.std.specs.Ordering.{is_lt}
 use Rattle.std.specs.declared.cmp.Ordering.{Ordering}
 use Rattle.std.specs.Cmp.{tied_itself}
-use Rattle.std.specs.FinMap.{entries, values, entries_sorted, find, get, get-entries, is_sorted}
+use Rattle.std.specs.FinMap.{entries, values, entries_sorted, get, is_sorted}
 use Rattle.std.specs.FinMap.Entries.{below_all}
-use Rattle.std.proofs.lemmas.Bool.Decides.{nat_tests}
 use Rattle.std.proofs.lemmas.List.{map-append, append-nil}
 use Rattle.std.proofs.lemmas.List.Elements.{All-contains, All-head, All-tail, All-filter, All-map, All-contains_itself, Contains-append_cases, filter-append, filter_passes}
+use Rattle.std.proofs.lemmas.Bool.{eqb-true, and_parts}
 use Rattle.sums.proofs.Members.{all_from, contains_map, from_map, here, there}
 use Rattle.rules.specs.Values.{ConfigValue}
 use Rattle.rules.specs.Suites.{keeps_architecture, keeps_component}
@@ -24,8 +24,8 @@ use Rattle.suites.specs.Pool.{files_of}
 use Rattle.suites.specs.Shelves.{ShelvesValue, AreSound}
 use Rattle.suites.specs.declared.item.Item.{Item}
 use Rattle.suites.specs.declared.key.ShelfKey.{ShelfKey}
-use Rattle.suites.proofs.EntryLemmas.{and_left, and_right, below-at, found_at, sorted-filter}
-use Rattle.suites.proofs.FileMembers.{files_contain, item_of_file}
+use Rattle.suites.proofs.EntryLemmas.{and_left, and_right, below-at, sorted-filter}
+use Rattle.suites.proofs.FileMembers.{files_contain, item_of_file, shown_entry}
 
 -- one item more of those that pass
 pub passing-push : (test : ShelfKey × Item → Bool) (done : List (ShelfKey × Item)) (e : ShelfKey × Item)
@@ -42,13 +42,6 @@ passing-push test done e =
 abbrev InSuite : ℕ → ShelfKey × Item → Type 0
 InSuite from e = IsAtHome e × (e.0.suite ≡ from)
 
-first_and : (a b : Bool) → (a && b) ≡ true → a ≡ true
-first_and true b e = refl
-first_and false b e = e
-
-same_number : (a b : ℕ) → nat_eq a b ≡ true → a ≡ b
-same_number a b e = grind (arith, nat_tests)
-
 copied_suite : (from : ℕ) (source : List ℕ) (target : Suite) (e : ShelfKey × Item) → is_copied from source target e ≡ true → e.0.suite ≡ from
 unfolding is_copied
 copied_suite from source target e h =
@@ -56,7 +49,7 @@ copied_suite from source target e h =
     let named = bytes_eq e.1.source source in
     let component = keeps_component target e.1.component in
     let architecture = keeps_architecture target e.1.architecture in
-    same_number e.0.suite from (first_and suite named (first_and (suite && named) component (first_and ((suite && named) && component) architecture h)))
+    eqb-true e.0.suite from (and_parts suite named (and_parts (suite && named) component (and_parts ((suite && named) && component) architecture h).0).0).0
 
 less_other : (k j : ShelfKey) → T (is_lt (key_order k j)) → k ≢ j
 less_other k j less same = absurd (subst (λ (r : Ordering). T (is_lt r)) (ap (key_order k) (sym same) ∙ tied_itself key_order_total k) less)
@@ -131,12 +124,6 @@ module _ (shelves : ShelvesValue) (from to : ℕ) (source : List ℕ) (target : 
 
 -- ---- the items from their shelves
 
--- what stands on the shelf of an entry
-entry_there : (shelves : ShelvesValue) (e : ShelfKey × Item) → Contains (entries shelves) e → get shelves e.0 ≡ Some e.1
-entry_there shelves e at =
-    get-entries shelves e.0
-    ∙ All-contains (λ (d : ShelfKey × Item). find key_order d.0 (entries shelves) ≡ Some d.1) (entries shelves) e (found_at key_order_total (entries shelves) (entries_sorted shelves)) at
-
 module _ (shelves : ShelvesValue) (from : ℕ) (source : List ℕ) (target : Suite) where
   abbrev kept_at : ShelfKey → List Item
   kept_at key = kept_by target (get shelves key)
@@ -168,4 +155,4 @@ module _ (shelves : ShelvesValue) (from : ℕ) (source : List ℕ) (target : Sui
   -- the kept items of these shelves are those that a copy takes
   pub kept-taken : flat_map kept_at (shelves_of shelves from source) ≡ map (λ a. a.1) (filter (is_copied from source target) (entries shelves))
   unfolding shelves_of
-  kept-taken = kept_of (entries shelves) (entry_there shelves)
+  kept-taken = kept_of (entries shelves) (shown_entry shelves)

@@ -4,6 +4,7 @@ use Rattle.std.specs.Prelude.{T, is_some}
 use Rattle.std.specs.List.{enumerate_from, flat_map}
 use Rattle.std.specs.Option.{unwrap_or}
 use Rattle.std.specs.FinMap.{find, is_sorted, get-from_entries, values}
+use Rattle.std.proofs.lemmas.Option.{same_Some}
 use Rattle.sums.specs.declared.print.Print.{Print}
 use Rattle.suites.specs.Applying.{with_reference, without_reference, with_print}
 use Rattle.suites.specs.Counts.{count_at, shared_at}
@@ -72,9 +73,6 @@ adds_some : (p : List ℕ) (x : Print) (n : ℕ) (rs : List Reference) → 0 < n
 adds_some p x zero rs h = absurd (omega (arith, h))
 adds_some p x (suc n) rs h = adds p x n rs
 
-some_same : (x z : Print) → Some x ≡ Some z → z ≡ x
-some_same x z e = cc
-
 none_other : (x z : Print) → None ≡ Some z → z ≡ x
 none_other x z e = cc
 
@@ -97,7 +95,7 @@ counted_again p before after put dropped added removed law sorted found = by_pri
         ∙ ap (λ o. fold (with_print p) (fold (without_reference p) o dropped) added) (adds_some p x (count_at p before) put (count_positive p before x e))
         ∙ ap (λ o. fold (with_print p) o added) (drops p x (count_at p before + hits p put) dropped)
         ∙ closed p x (count_at p before + hits p put - hits p dropped) before after added removed (remain _ _ _ _ law) sorted found
-        (λ z there. some_same x z (sym e ∙ there))
+        (λ z there. sym (same_Some x z (sym e ∙ there)))
     by_print None e =
         let first = adds_first p blank put in
         ap (λ o. fold (with_print p) (fold (without_reference p) (fold (with_reference p) o put) dropped) added) (shared_missing p before e)

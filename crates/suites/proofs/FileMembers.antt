@@ -4,12 +4,13 @@ use Rattle.std.specs.Prelude.{Contains}
 use Rattle.std.specs.declared.cmp.Ordering.{Ordering}
 use Rattle.std.specs.Ordering.{eq_by_cmp}
 use Rattle.std.specs.Cmp.{IsTotalOrder, eq_by_cmp_equiv}
-use Rattle.std.specs.FinMap.{entries, values, get, find, get-entries, entries_sorted, IsAntisymmetric}
+use Rattle.std.specs.FinMap.{entries, values, get, find, get-entries, entries_sorted, IsAntisymmetric, FinMap}
 use Rattle.std.proofs.lemmas.List.Elements.{All-contains, Contains-append_left, Contains-append_right, Contains-append_cases}
+use Rattle.std.proofs.lemmas.Option.{same_Some}
 use Rattle.sums.proofs.Members.{here, there, which, no_member, contains_map, from_map}
 use Rattle.sums.specs.declared.print.Print.{Print}
 use Rattle.suites.specs.Counts.{count_at}
-use Rattle.suites.specs.Keys.{key_order, text_order}
+use Rattle.suites.specs.Keys.{text_order}
 use Rattle.suites.specs.KeyLemmas.{key_order_total, key_order-IsAntisymmetric, text_order_total, text_order-IsAntisymmetric}
 use Rattle.suites.specs.Pool.{pair_of, files_of, AreAgreed}
 use Rattle.suites.specs.Shelves.{ShelvesValue}
@@ -37,12 +38,9 @@ module _ {K X : Type 0} {R : K → K → Ordering} where
   member_found same k v [] f = cc
   member_found same k v (e ∷ es) f =
       elim (eq_by_cmp R k e.0) as (λ b. eq_by_cmp R k e.0 ≡ b → cond b (Some e.1) (find R k es) ≡ Some v → Contains (e ∷ es) (k, v)) [
-        | true ↦ λ tied g. (let value : e.1 ≡ v = some_same g in subst (λ (z : K × X). Contains (e ∷ es) z) (λ i. (sym (same_keys same k e.0 tied) i, value i)) (here e es))
+        | true ↦ λ tied g. (let value : e.1 ≡ v = same_Some e.1 v g in subst (λ (z : K × X). Contains (e ∷ es) z) (λ i. (sym (same_keys same k e.0 tied) i, value i)) (here e es))
         | false ↦ λ other g. there e (k, v) es (member_found same k v es g)
       ] refl f
-    where
-      some_same : {x y : X} → Some x ≡ Some y → x ≡ y
-      some_same g = cc
 
   pub found_member : IsTotalOrder R → (k : K) (v : X) (es : List (K × X)) → Contains es (k, v) → (w : X) × (find R k es ≡ Some w)
   found_member o k v [] h = no_member (k, v) h
@@ -54,6 +52,13 @@ module _ {K X : Type 0} {R : K → K → Ordering} where
           | inr r ↦ found_member o k v es r
         ]
       ] refl
+
+  -- what stands at a key is one of the entries, and the other way round
+  pub get_member : IsAntisymmetric R → (m : FinMap R X) (k : K) (v : X) → get m k ≡ Some v → Contains (entries m) (k, v)
+  get_member same m k v e = member_found same k v (entries m) (sym (get-entries m k) ∙ e)
+
+  pub member_get : IsTotalOrder R → (m : FinMap R X) (e : K × X) → Contains (entries m) e → get m e.0 ≡ Some e.1
+  member_get o m e h = get-entries m e.0 ∙ All-contains (λ f. find R f.0 (entries m) ≡ Some f.1) (entries m) e (found_at o (entries m) (entries_sorted m)) h
 
 -- if all agree, a member is what is found at its path
 pub agreed_found : (files : List (List ℕ × Print)) (path : List ℕ) (print : Print) → AreAgreed files → Contains files (path, print) → find text_order path files ≡ Some print
@@ -72,10 +77,10 @@ counted_none path (f ∷ files) none = by_kind (eq_by_cmp text_order path f.0) (
 
 -- what a shelf shows is one of the entries, and the other way round
 pub entry_shown : (m : ShelvesValue) (k : ShelfKey) (x : Item) → get m k ≡ Some x → Contains (entries m) (k, x)
-entry_shown m k x e = member_found key_order-IsAntisymmetric k x (entries m) (sym (get-entries m k) ∙ e)
+entry_shown m k x e = get_member key_order-IsAntisymmetric m k x e
 
 pub shown_entry : (m : ShelvesValue) (e : ShelfKey × Item) → Contains (entries m) e → get m e.0 ≡ Some e.1
-shown_entry m e h = get-entries m e.0 ∙ All-contains (λ f. find key_order f.0 (entries m) ≡ Some f.1) (entries m) e (found_at key_order_total (entries m) (entries_sorted m)) h
+shown_entry m e h = member_get key_order_total m e h
 
 pub value_shown : (m : ShelvesValue) (k : ShelfKey) (x : Item) → get m k ≡ Some x → Contains (values m) x
 value_shown m k x e = contains_map (λ (f : ShelfKey × Item). f.1) (k, x) (entries m) (entry_shown m k x e)

@@ -1,5 +1,5 @@
 -- Items that come and go one by one.
-use Rattle.std.proofs.Common.{◌≡◌, ℕ, ◌+◌, ◌<◌, Bool, true, false, cond, ◌||◌, not, List, [], ◌∷◌, ◌++◌, map, filter, take, length, get_or, refl, sym, ap, ◌∙◌, append-nil, arith, Option, Some, None, Result, Ok, Err, OnOk, OnErr}
+use Rattle.std.proofs.Common.{◌≡◌, ℕ, ◌+◌, ◌<◌, Bool, true, false, cond, ◌||◌, not, List, [], ◌∷◌, ◌++◌, map, filter, take, length, get_or, refl, sym, ap, ◌∙◌, append-nil, Option, Some, None, Result, Ok, Err, OnOk, OnErr}
 use Rattle.std.specs.Prelude.{All, is_some, T, fold}
 use Rattle.std.specs.List.{list_any, AllByRecursion}
 use Rattle.std.specs.declared.cmp.Ordering.{Ordering}
@@ -12,16 +12,9 @@ use Rattle.std.proofs.lemmas.List.{take_more}
 use Rattle.std.proofs.lemmas.List.Elements.{recursion_from_All, filter-append, All-weaker, All-from_recursion}
 use Rattle.std.proofs.lemmas.List.Folds.{list_any-append}
 use Rattle.std.proofs.lemmas.List.Sums.{fold_push}
+use Rattle.std.proofs.lemmas.Bool.{or_parts}
 use Rattle.suites.specs.Change.{without, with_all}
 use Rattle.suites.proofs.MapChanges.{or_else, get-without, get-with_all}
-
-either_false : (a b : Bool) → (a || b) ≡ false → (a ≡ false) × (b ≡ false)
-either_false true b e = cc
-either_false false b e = (refl, e)
-
-pub no_items : {A : Type 0} (es : List A) → length es ≡ 0 → es ≡ []
-no_items [] e = refl
-no_items (x ∷ es) e = absurd (omega (arith, e))
 
 pub must_succeed : {V E X P : Type 0} (r : Result V E) (o : Option X) → is_some o ≡ true → OnErr r (o ≡ None) → OnOk r P → P
 must_succeed (Ok v) o there absent ok = ok
@@ -67,7 +60,7 @@ module _ {K X : Type 0} {R : K → K → Ordering} (o : IsTotalOrder R) where
   pub others_more : (s m n : FinMap R X) (k : K) (v : X) (rest : List K) (q : K) → n ≡ insert m k v
       → (get m q ≡ get s q) × (list_any (eq_by_cmp R q) (k ∷ rest) ≡ false) → (get n q ≡ get s q) × (list_any (eq_by_cmp R q) rest ≡ false)
   others_more s m n k v rest q e h =
-      let no = either_false (eq_by_cmp R q k) (list_any (eq_by_cmp R q) rest) h.1 in
+      let no = or_parts (eq_by_cmp R q k) (list_any (eq_by_cmp R q) rest) h.1 in
       (ap (λ m. get m q) e ∙ get-insert o m k v q ∙ ap (λ b. cond b (Some v) (get m q)) no.0 ∙ h.0, no.1)
 
   absent_by : (m : FinMap R X) (q : K) (es : List (K × X)) → AllByRecursion (λ e. get m e.0 ≡ None) es → list_any (eq_by_cmp R q) (map (λ e. e.0) es) ≡ true → get m q ≡ None

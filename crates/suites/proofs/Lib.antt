@@ -29,6 +29,7 @@ pub mod HeldLemmas
 pub mod ShownLemmas
 pub mod ChangeLemmas
 pub mod MapLemmas
+pub mod PassingEntries
 pub mod MapChanges
 pub mod CountLemmas
 pub mod NumberedFiles

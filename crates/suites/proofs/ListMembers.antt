@@ -1,7 +1,8 @@
 -- Members of lists that are filtered, put side by side or joined.
-use Rattle.std.proofs.Common.{◌≡◌, Bool, true, false, cond, List, [], ◌∷◌, filter, zip, flat_map, Option, Some, None, option_to_list, refl, sym, ap, ◌∙◌, subst, inl, inr}
+use Rattle.std.proofs.Common.{◌≡◌, Bool, true, false, cond, List, [], ◌∷◌, filter, zip, flat_map, Option, Some, None, option_to_list, refl, sym, ap, ◌∙◌, subst, inl, inr, filter_map}
 use Rattle.std.specs.Prelude.{Contains}
 use Rattle.std.proofs.lemmas.List.Elements.{Contains-append_cases}
+use Rattle.std.specs.List.{cons_option}
 use Rattle.sums.proofs.Members.{here, there, which, no_member}
 
 kept_or_not : {X : Type 0} (p : X → Bool) (x : X) (y : X) (xs : List X) (b : Bool) → p x ≡ b → Contains (cond b (x ∷ filter p xs) (filter p xs)) y
@@ -49,6 +50,19 @@ from_flat_map f y (x ∷ xs) h = elim (Contains-append_cases (f x) (flat_map f x
   | inl p ↦ (x, here x xs, p)
   | inr q ↦ let r = from_flat_map f y xs q in (r.0, there x r.0 xs r.1, r.2)
 ]
+
+-- what a member of the list makes
+pub from_filter_map : {X Y : Type 0} (f : X → Option Y) (y : Y) (xs : List X) → Contains (filter_map f xs) y → (x : X) × Contains xs x × (f x ≡ Some y)
+from_filter_map f y [] h = no_member y h
+from_filter_map {X} {Y} f y (x ∷ xs) h = by_case (f x) refl h (from_filter_map f y xs)
+  where
+    by_case : (o : Option Y) → f x ≡ o → Contains (cons_option o (filter_map f xs)) y → (Contains (filter_map f xs) y → (z : X) × Contains xs z × (f z ≡ Some y))
+        → (z : X) × Contains (x ∷ xs) z × (f z ≡ Some y)
+    by_case None e h more = let m = more h in (m.0, there x m.0 xs m.1, m.2)
+    by_case (Some z) e h more = elim (which z y (filter_map f xs) h) [
+      | inl same ↦ (x, here x xs, e ∙ ap Some same)
+      | inr rest ↦ let m = more rest in (m.0, there x m.0 xs m.1, m.2)
+    ]
 
 -- the one member of what an option holds
 pub only : {X : Type 0} (o : Option X) (x : X) → Contains (option_to_list o) x → o ≡ Some x

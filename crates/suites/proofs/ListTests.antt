@@ -1,9 +1,14 @@
 -- Tests over lists that were made from others.
-use Rattle.std.proofs.Common.{◌≡◌, Bool, true, false, cond, not, ◌&&◌, ◌||◌, List, [], ◌∷◌, map, refl, ap, ◌∙◌}
-use Rattle.std.specs.List.{find, filter, list_any, list_all}
+use Rattle.std.proofs.Common.{◌≡◌, Bool, true, false, cond, not, ◌&&◌, ◌||◌, List, [], ◌∷◌, map, refl, ap, ◌∙◌, Option, Some, None, sym, ap₂}
+use Rattle.std.specs.List.{find, filter, list_any, list_all, AllByRecursion}
+use Rattle.std.proofs.Math.Bool.{not-not}
+use Rattle.std.specs.Option.{option_or}
 
 pub same_find : {X : Type 0} (p q : X → Bool) → ((x : X) → p x ≡ q x) → (xs : List X) → find p xs ≡ find q xs
 same_find p q h xs = ap (λ t. find t xs) (λ i x. h x i)
+
+pub same_any : {X : Type 0} (p q : X → Bool) → ((x : X) → p x ≡ q x) → (xs : List X) → list_any p xs ≡ list_any q xs
+same_any p q h xs = ap (λ t. list_any t xs) (λ i x. h x i)
 
 filter_step : {A B : Type 0} (f : A → B) (b : Bool) (x : A) (ys : List B) (zs : List A) → ys ≡ map f zs
     → cond b (f x ∷ ys) ys ≡ map f (cond b (x ∷ zs) zs)
@@ -32,13 +37,29 @@ pub list_all-filter : {X : Type 0} (q p : X → Bool) (xs : List X) → list_all
 list_all-filter q p [] = refl
 list_all-filter q p (x ∷ xs) = all_step q (p x) _ x (filter p xs) (list_all-filter q p xs)
 
-pub list_any-map : {X Y : Type 0} (p : X → Bool) (f : Y → X) (ys : List Y) → list_any p (map f ys) ≡ list_any (λ y. p (f y)) ys
-list_any-map p f [] = refl
-list_any-map p f (y ∷ ys) = ap (λ b. p (f y) || b) (list_any-map p f ys)
-
-not_not : (b : Bool) → not (not b) ≡ b
-not_not true = refl
-not_not false = refl
-
 pub list_all-filter_not : {X : Type 0} (q p : X → Bool) (xs : List X) → list_all q (filter (λ x. not (p x)) xs) ≡ list_all (λ x. p x || q x) xs
-list_all-filter_not q p xs = list_all-filter q (λ x. not (p x)) xs ∙ ap (λ t. list_all t xs) (λ i x. not_not (p x) i || q x)
+list_all-filter_not q p xs = list_all-filter q (λ x. not (p x)) xs ∙ ap (λ t. list_all t xs) (λ i x. not-not (p x) i || q x)
+
+pub filter_same_on : {X : Type 0} (p q : X → Bool) (xs : List X) → AllByRecursion (λ x. p x ≡ q x) xs → filter p xs ≡ filter q xs
+filter_same_on p q [] h = refl
+filter_same_on p q (x ∷ xs) h = ap₂ (λ b l. cond b (x ∷ l) l) h.0 (filter_same_on p q xs h.1)
+
+pub any_with : {X : Type 0} (b : Bool) (p : X → Bool) (xs : List X) → list_any (λ x. b && p x) xs ≡ (b && list_any p xs)
+any_with true p xs = refl
+any_with false p [] = refl
+any_with false p (x ∷ xs) = any_with false p xs
+
+-- ---- tests and options
+
+pub same_tests : (a b : Bool) → (a ≡ true → b ≡ true) → (b ≡ true → a ≡ true) → a ≡ b
+same_tests true b f g = sym (f refl)
+same_tests false true f g = g refl
+same_tests false false f g = refl
+
+pub not_either : (a b : Bool) → not (a || b) ≡ (not a && not b)
+not_either true b = refl
+not_either false b = refl
+
+pub option_or_none : {X : Type 0} (o : Option X) → option_or o None ≡ o
+option_or_none None = refl
+option_or_none (Some x) = refl

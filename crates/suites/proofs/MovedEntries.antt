@@ -24,7 +24,8 @@ use Rattle.suites.specs.declared.item.Item.{Item}
 use Rattle.suites.specs.declared.key.ShelfKey.{ShelfKey}
 use Rattle.suites.proofs.EntryLemmas.{and_left, and_right, tied_behind}
 use Rattle.suites.proofs.FileMembers.{files_contain, found_member, item_of_file, shown_entry, value_shown}
-use Rattle.suites.proofs.MovedLemmas.{from_filter_map, key_of, one_shelf}
+use Rattle.suites.proofs.MovedLemmas.{key_of, one_shelf}
+use Rattle.suites.proofs.ListMembers.{from_filter_map}
 
 pub claims_own : (s : Suite) → claims s.codename s ≡ true
 unfolding claims

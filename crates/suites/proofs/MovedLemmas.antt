@@ -1,17 +1,17 @@
 -- What is shown under another configuration is what was shown, shelf by shelf, with the same pool.
-use Rattle.std.proofs.Common.{◌≡◌, ◌≢◌, ◌<◌, inl, inr, ℕ, zero, suc, true, false, List, [], ◌∷◌, filter_map, Option, Some, None, option_map, length, get_or, slice_get, bytes_eq, refl, sym, ap, subst, ◌∙◌, arith}
+use Rattle.std.proofs.Common.{◌≡◌, ◌≢◌, ◌<◌, inl, inr, ℕ, true, false, List, [], ◌∷◌, filter_map, Option, Some, None, option_map, length, get_or, slice_get, bytes_eq, refl, sym, ap, subst, ◌∙◌, arith}
 use Rattle.std.specs.Prelude.{AllPairs, Contains}
 use Rattle.std.specs.List.{cons_option}
 use Rattle.std.specs.Option.{option_and_then, option_map_or}
 use Rattle.std.specs.FinMap.{entries, values, get, get-from_entries}
 use Rattle.std.proofs.lemmas.Bool.{cases_lt}
 use Rattle.std.proofs.lemmas.List.Quantifiers.{position-Some}
-use Rattle.std.proofs.lemmas.Option.{same_Some, slice_get-get_or}
-use Rattle.std.proofs.lemmas.Slice.Eq.{bytes_eq-Decides}
+use Rattle.std.proofs.lemmas.Option.{same_Some, slice_get-get_or, slice_get_within}
 use Rattle.rules.specs.Suites.{suite_named}
 use Rattle.rules.specs.declared.suite.Suite.{Suite}
 use Rattle.sums.proofs.Members.{here, there, which, no_member, all_true, all_at, all_from}
 use Rattle.sums.specs.declared.print.Print.{Print}
+use Rattle.sums.proofs.Agree.{same_bytes}
 use Rattle.suites.specs.Items.{IsAtHome, standing}
 use Rattle.suites.specs.KeyLemmas.{key_order_total, key_order-IsAntisymmetric, text_order_total, text_order-IsAntisymmetric}
 use Rattle.suites.specs.Moved.{all_stay, moved, moved_entry, place_in, stays_kept}
@@ -21,20 +21,9 @@ use Rattle.suites.specs.Told.{AreTold, IsTold, is_kept_by}
 use Rattle.suites.specs.declared.item.Item.{Item}
 use Rattle.suites.specs.declared.key.ShelfKey.{ShelfKey}
 use Rattle.suites.proofs.FileMembers.{agreed_found, entry_shown, files_contain, found_member, item_of_file, member_found, shown_entry, shown_value, value_shown}
+use Rattle.suites.proofs.ListMembers.{from_filter_map}
 
 -- ---- members of a list that is mapped and filtered
-
-pub from_filter_map : {X Y : Type 0} (f : X → Option Y) (y : Y) (xs : List X) → Contains (filter_map f xs) y → (x : X) × Contains xs x × (f x ≡ Some y)
-from_filter_map f y [] h = no_member y h
-from_filter_map {X} {Y} f y (x ∷ xs) h = by_case (f x) refl h (from_filter_map f y xs)
-  where
-    by_case : (o : Option Y) → f x ≡ o → Contains (cons_option o (filter_map f xs)) y → (Contains (filter_map f xs) y → (z : X) × Contains xs z × (f z ≡ Some y))
-        → (z : X) × Contains (x ∷ xs) z × (f z ≡ Some y)
-    by_case None e h more = let m = more h in (m.0, there x m.0 xs m.1, m.2)
-    by_case (Some z) e h more = elim (which z y (filter_map f xs) h) [
-      | inl same ↦ (x, here x xs, e ∙ ap Some same)
-      | inr rest ↦ let m = more rest in (m.0, there x m.0 xs m.1, m.2)
-    ]
 
 pub to_filter_map : {X Y : Type 0} (f : X → Option Y) (x : X) (y : Y) (xs : List X) → Contains xs x → f x ≡ Some y → Contains (filter_map f xs) y
 to_filter_map f x y [] h e = no_member x h
@@ -52,8 +41,10 @@ to_filter_map {X} {Y} f x y (z ∷ xs) h e = by_case (f z) refl (λ r. to_filter
 
 -- ---- suites by their codenames
 
-pub bytes_same : (xs ys : List ℕ) → bytes_eq xs ys ≡ true → xs ≡ ys
-bytes_same xs ys e = (bytes_eq-Decides xs ys).0 e
+-- there is a suite at each position below the number of suites
+pub suite_there : (suites : List Suite) (i : ℕ) → i < length suites → (s : Suite) × (slice_get suites i ≡ Some s)
+suite_there [] i h = absurd (omega arith)
+suite_there (s ∷ ss) i h = (get_or (s ∷ ss) i s, slice_get-get_or (s ∷ ss) i s h)
 
 -- the suite of a position, and the one that has its codename
 place_suite : (old new : List Suite) (n k : ℕ) → place_in old new n ≡ Some k → (s : Suite) × (slice_get old n ≡ Some s) × (suite_named new s.codename ≡ Some k)
@@ -68,7 +59,7 @@ place_suite old new n k e = by_case (slice_get old n) refl e
 has_name : (new : List Suite) (name : List ℕ) (k : ℕ) (d : Suite) → suite_named new name ≡ Some k → (get_or new k d).codename ≡ name
 unfolding suite_named
 has_name [] name k d e = cc
-has_name (s ∷ ss) name k d e = bytes_same (get_or (s ∷ ss) k d).codename name (position-Some (λ (x : Suite). bytes_eq x.codename name) (s ∷ ss) k d e).1
+has_name (s ∷ ss) name k d e = same_bytes (get_or (s ∷ ss) k d).codename name (position-Some (λ (x : Suite). bytes_eq x.codename name) (s ∷ ss) k d e).1
 
 module _ (old : List Suite) (apart : AllPairs (λ s t. s.codename ≢ t.codename) old) where
   before : (i j : ℕ) (s t : Suite) → i < j → j < length old → slice_get old i ≡ Some s → slice_get old j ≡ Some t → s.codename ≡ t.codename → ⊥
@@ -77,16 +68,11 @@ module _ (old : List Suite) (apart : AllPairs (λ s t. s.codename ≢ t.codename
       let second : get_or old j s ≡ t = same_Some (get_or old j s) t (sym (slice_get-get_or old j s within) ∙ at_j) in
       apart i j s below within (ap (λ (x : Suite). x.codename) first ∙ same ∙ sym (ap (λ (x : Suite). x.codename) second))
 
-  inside : (xs : List Suite) (i : ℕ) (s : Suite) → slice_get xs i ≡ Some s → i < length xs
-  inside [] i s e = cc
-  inside (x ∷ xs) zero s e = omega arith
-  inside (x ∷ xs) (suc i) s e = let more = inside xs i s e in omega (arith, more)
-
   one_place : (i j : ℕ) (s t : Suite) → slice_get old i ≡ Some s → slice_get old j ≡ Some t → s.codename ≡ t.codename → i ≡ j
   one_place i j s t at_i at_j same = elim (cases_lt i j) [
-    | inl less ↦ absurd (before i j s t less (inside old j t at_j) at_i at_j same)
+    | inl less ↦ absurd (before i j s t less (slice_get_within old j t at_j) at_i at_j same)
     | inr more ↦ elim (cases_lt j i) [
-      | inl less ↦ absurd (before j i t s less (inside old i s at_i) at_j at_i (sym same))
+      | inl less ↦ absurd (before j i t s less (slice_get_within old i s at_i) at_j at_i (sym same))
       | inr other ↦ omega (arith, more, other)
     ]
   ]

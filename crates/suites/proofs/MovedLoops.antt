@@ -1,11 +1,12 @@
 -- The loops that move what is shown.
-use Rattle.std.proofs.Common.{◌≡◌, ◌≢◌, inl, inr, ℕ, Bool, true, false, cond, List, [], ◌∷◌, ◌++◌, length, map, Option, Some, None, option_map, if◌then◌else◌, refl, sym, ap, subst, ◌∙◌, arith}
+use Rattle.std.proofs.Common.{◌≡◌, ◌≢◌, inl, inr, ℕ, Bool, true, false, cond, List, [], ◌∷◌, ◌++◌, map, Option, Some, None, option_map, if◌then◌else◌, refl, sym, ap, subst, ◌∙◌, arith}
 use Rattle.std.specs.Prelude.{All, AllPairs, Contains}
 use Rattle.std.specs.List.{list_all}
 use Rattle.std.specs.Option.{option_map_or, option_or}
 use Rattle.std.specs.Ordering.{eq_by_cmp}
 use Rattle.std.specs.FinMap.{find, from_entries, get, get-empty, get-from_entries, get-insert, insert, same_map, values, empty}
 use Rattle.std.proofs.lemmas.List.Elements.{All-contains, Contains-append_cases, Contains-append_left, Contains-append_right}
+use Rattle.std.proofs.lemmas.Option.{same_Some}
 use Rattle.sums.proofs.Members.{all_from, no_member}
 use Rattle.rules.specs.declared.suite.Suite.{Suite}
 use Rattle.sums.specs.declared.print.Print.{Print}
@@ -21,6 +22,7 @@ use Rattle.suites.specs.declared.item.Item.{Item}
 use Rattle.suites.specs.declared.key.ShelfKey.{ShelfKey}
 use Rattle.suites.proofs.EntryLemmas.{same_keys}
 use Rattle.suites.proofs.FileMembers.{files_contain, item_of_file, shown_value, value_shown}
+use Rattle.suites.proofs.ListTests.{option_or_none}
 
 -- ---- entries, one after another
 
@@ -96,12 +98,9 @@ module _ (m : ShelvesValue) (key : ShelfKey) (item : Item) (rest : List (ShelfKe
         where
           by_case : (b : Bool) → cond b (Some item) (get m k) ≡ Some x → Contains (files_of (values m) ++ files_of (item ∷ items)) f
           by_case true e =
-              let same : item ≡ x = some_same e in
+              let same : item ≡ x = same_Some item x e in
               Contains-append_right (files_of (values m)) (files_of (item ∷ items)) f
               (Contains-append_left (map pair_of item.files) (files_of items) f (subst (λ (y : Item). Contains (map pair_of y.files) f) (sym same) own))
-            where
-              some_same : Some item ≡ Some x → item ≡ x
-              some_same g = cc
           by_case false e = Contains-append_left (files_of (values m)) (files_of (item ∷ items)) f (files_contain (values m) x f (value_shown m k x e) own)
 
       back : (f : List ℕ × Print) → Contains (files_of (values (insert m key item)) ++ files_of items) f → Contains (files_of (values m) ++ files_of (item ∷ items)) f
@@ -115,15 +114,7 @@ module _ (m : ShelvesValue) (key : ShelfKey) (item : Item) (rest : List (ShelfKe
 
 -- at the end all are there
 pub all_there : (m : ShelvesValue) (es : List (ShelfKey × Item)) → ((k : ShelfKey) → option_or (get m k) None ≡ get (from_entries {R = key_order} es) k) → m ≡ from_entries es
-all_there m es h = same_map key_order_total key_order-IsAntisymmetric m (from_entries es) (λ k. or_none (get m k) ∙ h k)
-  where
-    or_none : (o : Option Item) → o ≡ option_or o None
-    or_none None = refl
-    or_none (Some x) = refl
-
-pub nothing_left : {X : Type 0} (xs : List X) → length xs ≡ 0 → xs ≡ []
-nothing_left [] h = refl
-nothing_left (x ∷ xs) h = absurd (omega (arith, h))
+all_there m es h = same_map key_order_total key_order-IsAntisymmetric m (from_entries es) (λ k. sym (option_or_none (get m k)) ∙ h k)
 
 -- what holds before the first item
 pub record Starts (all : List (ShelfKey × Item)) (m : ShelvesValue) (rest : List (ShelfKey × Item)) : Type 0 where

@@ -14,6 +14,7 @@ use Rattle.std.proofs.lemmas.List.{map-append}
 use Rattle.std.proofs.lemmas.List.Elements.{filter-append}
 use Rattle.std.proofs.lemmas.List.Sums.{length-filter, count_by-le-length}
 use Rattle.std.proofs.lemmas.Slice.Eq.{bytes_eq-Decides}
+use Rattle.std.proofs.lemmas.Simd.{map-map}
 use Rattle.sums.specs.declared.print.Print.{Print}
 use Rattle.suites.specs.Counts.{count_at, shared_at}
 use Rattle.suites.specs.Keys.{text_order}
@@ -99,11 +100,7 @@ printed_files es = map (λ e. (string_bytes e.0, e.1.print)) es
 
 pairs-where : (test : List ℕ → SharedFile → Bool) (es : List (String Global × SharedFile))
     → map pair_of (files_where test es) ≡ printed_files (filter (λ e. test (string_bytes e.0) e.1) es)
-pairs-where test es = map-map _ pair_of (filter (λ e. test (string_bytes e.0) e.1) es)
-  where
-    map-map : {A B C : Type 0} (f : A → B) (g : B → C) (xs : List A) → map g (map f xs) ≡ map (λ x. g (f x)) xs
-    map-map f g [] = refl
-    map-map f g (x ∷ xs) = ap (λ ys. g (f x) ∷ ys) (map-map f g xs)
+pairs-where test es = map-map pair_of _ (filter (λ e. test (string_bytes e.0) e.1) es)
 
 below-printed : (k : String Global) (es : List (String Global × SharedFile)) → T (below_all string_cmp k es) → T (below_all text_order (string_bytes k) (printed_files es))
 below-printed k [] below = tt

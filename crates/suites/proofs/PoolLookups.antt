@@ -18,10 +18,10 @@ tie Less h = cc
 tie Equal h = refl
 tie Greater h = cc
 
-same_path : (p q : List ℕ) → eq_by_cmp text_order p q ≡ true → p ≡ q
+pub same_path : (p q : List ℕ) → eq_by_cmp text_order p q ≡ true → p ≡ q
 same_path p q h = text_order-IsAntisymmetric p q (tie (text_order p q) h)
 
-path_same : (p q : List ℕ) → p ≡ q → eq_by_cmp text_order p q ≡ true
+pub path_same : (p q : List ℕ) → p ≡ q → eq_by_cmp text_order p q ≡ true
 path_same p q e = ap (λ r. eq_by_cmp text_order p r) (sym e) ∙ ap is_eq (tied_itself text_order_total p)
 
 found_at : (path : List ℕ) (e : List ℕ × Print) (rest : List (List ℕ × Print)) (p : Print) (b : Bool) → eq_by_cmp text_order path e.0 ≡ b

@@ -6,6 +6,7 @@ use Rattle.std.specs.Ordering.{eq_by_cmp}
 use Rattle.std.specs.Cmp.{eq_by_cmp_equiv}
 use Rattle.std.specs.FinMap.{entries, find, get, get-insert, insert, values}
 use Rattle.std.proofs.lemmas.List.Elements.{All-contains, Contains-append_left, Contains-append_right, Contains-append_cases}
+use Rattle.std.proofs.lemmas.Option.{same_Some}
 use Rattle.sums.proofs.Members.{all_from}
 use Rattle.sums.specs.declared.print.Print.{Print}
 use Rattle.suites.specs.Admission.{MayJoin}
@@ -125,11 +126,8 @@ module _ (old : ShelvesValue) (key : ShelfKey) (item : Item) (free : get old key
   came_or_shown : (k : ShelfKey) (x : Item) → get (insert old key item) k ≡ Some x → ((key ≡ k) × (item ≡ x)) ⊎ (get old k ≡ Some x)
   came_or_shown k x e = by_kind (eq_by_cmp key_order k key) refl (sym (at_shelf k) ∙ e)
     where
-      some_same : Some item ≡ Some x → item ≡ x
-      some_same f = cc
-
       by_kind : (b : Bool) → eq_by_cmp key_order k key ≡ b → cond b (Some item) (get old k) ≡ Some x → ((key ≡ k) × (item ≡ x)) ⊎ (get old k ≡ Some x)
-      by_kind true tied f = inl (sym (same_keys key_order-IsAntisymmetric k key tied), some_same f)
+      by_kind true tied f = inl (sym (same_keys key_order-IsAntisymmetric k key tied), same_Some item x f)
       by_kind false apart f = inr f
 
   -- the files before, and those of the item

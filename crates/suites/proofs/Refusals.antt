@@ -1,5 +1,5 @@
 -- What refuses an upload, and the records of one that is not refused.
-use Rattle.std.proofs.Common.{◌≡◌, ℕ, ◌+◌, ◌<◌, ◌≤◌, Bool, true, false, cond, not, ◌||◌, List, [], ◌∷◌, ◌++◌, map, Option, Some, None, Result, Ok, Err, length, take, get_or, refl, sym, ap, ◌∙◌, subst, arith, eqb}
+use Rattle.std.proofs.Common.{◌≡◌, ℕ, ◌+◌, ◌<◌, ◌≤◌, Bool, true, false, cond, not, List, [], ◌∷◌, ◌++◌, map, Option, Some, None, Result, Ok, Err, length, take, get_or, refl, sym, ap, ◌∙◌, subst, arith, eqb}
 use Rattle.std.proofs.lemmas.Bool.{or_from, or_left, or_right, or_parts, not-false, eqb-true}
 use Rattle.std.proofs.lemmas.List.{map_push, take_more}
 use Rattle.std.proofs.lemmas.List.Elements.{All-nil, All-cons, All-head, All-tail, All-same, All-push}
@@ -8,6 +8,7 @@ use Rattle.std.specs.List.{list_any, filter, filter_map, cons_option, zip, slice
 use Rattle.std.specs.Option.{MatchOption, option_map_or}
 use Rattle.std.specs.Prelude.{codes}
 use Rattle.std.specs.Result.{result_ok, MatchResult}
+use Rattle.std.proofs.Math.Bool.{or-false}
 use Rattle.records.specs.Records.{dsc_in, dsc_within, sidecar_in}
 use Rattle.records.specs.Values.{ChangesValue, DscValue}
 use Rattle.rules.specs.Verdicts.{first_row}
@@ -15,6 +16,7 @@ use Rattle.rules.specs.declared.verdict.Verdict.{Verdict}
 use Rattle.rules.specs.declared.verdict.Verdict.TheVariants as verdict
 use Rattle.sums.specs.declared.entries.Entry.{Entry}
 use Rattle.sums.specs.declared.print.Print.{Print}
+use Rattle.sums.proofs.Words.{list_any-map}
 use Rattle.suites.specs.Judging.{part_of, is_bad_dsc, is_bad_sidecar, IsSourcePart, IsBinaryPart, AreBinaryParts, IsSource, AreBinaries, AreParts}
 use Rattle.suites.specs.Pool.{PoolWith}
 use Rattle.suites.specs.Upload.{UploadValue, Part, has_suffix, parts_with, dsc_parts, sidecar_parts}
@@ -23,7 +25,6 @@ use Rattle.suites.specs.declared.items.SourcePart.{SourcePart}
 use Rattle.suites.specs.declared.items.BinaryPart.{BinaryPart}
 use Rattle.suites.specs.declared.upload.Part as parts
 use Rattle.suites.specs.declared.verdict.Parts.{Parts}
-use Rattle.suites.proofs.ListTests.{list_any-map}
 use Rattle.suites.proofs.RecordTexts.{dsc-within_in}
 
 pub none_case : {X : Type 0} (o : Option X) (P : Type 0) (Q : X → Type 0) → MatchOption o P Q → o ≡ None → P
@@ -40,7 +41,7 @@ ok_case r P Q x h e = subst (λ o. MatchResult o P Q) e h
 
 pub one_is_bad : (c : ChangesValue) (ps : List parts.Part) (i : ℕ) (d : parts.Part) → i < length ps → is_bad_sidecar c (part_of (get_or ps i d)) ≡ true
     → list_any (is_bad_sidecar c) (map part_of ps) ≡ true
-one_is_bad c ps i d less e = list_any-map (is_bad_sidecar c) part_of ps ∙ list_any_at (λ p. is_bad_sidecar c (part_of p)) ps i d less e
+one_is_bad c ps i d less e = list_any-map part_of (is_bad_sidecar c) ps ∙ list_any_at (λ p. is_bad_sidecar c (part_of p)) ps i d less e
 
 pub one_more_sidecar : (c : ChangesValue) (ps : List parts.Part) (i : ℕ) (d : parts.Part) (found more : List BinaryPart) (b : BinaryPart) → i < length ps
     → AreBinaryParts c (map part_of (take i ps)) found → IsBinaryPart c (part_of (get_or ps i d)) b → more ≡ found ++ b ∷ []
@@ -91,7 +92,7 @@ sidecars_good u c ps found same listed known none = record {
 
 -- ---- the .dsc of an upload
 
-was_read : {X E : Type 0} (r : Result X E) (x : X) → result_ok r ≡ Some x → r ≡ Ok x
+pub was_read : {X E : Type 0} (r : Result X E) (x : X) → result_ok r ≡ Some x → r ≡ Ok x
 was_read (Ok y) x h = let same : y ≡ x = cc in ap Ok same
 was_read (Err e) x h = cc
 
@@ -172,10 +173,6 @@ no_dsc most u ps listed none =
 
 -- ---- the files of the .dsc and of the .changes
 
-or_nothing : (b : Bool) → (b || false) ≡ b
-or_nothing true = refl
-or_nothing false = refl
-
 lacks_from : (most : ℕ) (files : PoolWith Print) (u : UploadValue) (found : Option SourcePart) → IsSource most u found
     → lacks_source_file by_print files u ≡ option_map_or (λ s. list_any (is_missing_file by_print files u.changes) s.dsc.entries) found false
 unfolding lacks_source_file
@@ -183,7 +180,7 @@ lacks_from most files u None is =
     ap (list_any (λ (part : Part). match_ok (dsc_in part.1) (λ d. list_any (is_missing_file by_print files u.changes) d.entries))) is.parts
 lacks_from most files u (Some s) is =
     ap (list_any (λ (part : Part). match_ok (dsc_in part.1) (λ d. list_any (is_missing_file by_print files u.changes) d.entries))) is.parts
-    ∙ or_nothing _
+    ∙ or-false _
     ∙ ap (λ r. match_ok r (λ d. list_any (is_missing_file by_print files u.changes) d.entries)) (All-head (λ s. dsc_in s.part.text.now ≡ Ok s.dsc) s [] is.dsc)
 
 -- ---- the rows of the verdicts 5 to 9

@@ -1,11 +1,12 @@
 -- What is counted at a path.
-use Rattle.std.proofs.Common.{◌≡◌, ℕ, suc, Bool, true, false, cond, List, [], ◌∷◌, length, filter, bytes_eq, refl, sym, ap, ◌∙◌, arith, Option, Some, None}
+use Rattle.std.proofs.Common.{◌≡◌, ℕ, suc, Bool, true, false, cond, List, [], ◌∷◌, length, filter, bytes_eq, refl, sym, ap, ◌∙◌, Option, Some, None}
 use Rattle.std.specs.Option.{option_map, unwrap_or}
 use Rattle.std.specs.declared.cmp.Ordering.{Ordering}
 use Rattle.std.specs.Ordering.{eq_by_cmp}
 use Rattle.std.specs.FinMap.{find, get, get-from_entries, entries, empty, values, len-entries, len-empty}
 use Rattle.std.specs.Cmp.{eq_by_cmp_equiv}
 use Rattle.std.proofs.lemmas.Map.Text.{is_eq-slice_cmp}
+use Rattle.std.proofs.lemmas.List.{nil_from_length}
 use Rattle.sums.specs.declared.print.Print.{Print}
 use Rattle.suites.specs.Counts.{count_at, shared_at}
 use Rattle.suites.specs.Keys.{text_order}
@@ -15,12 +16,8 @@ use Rattle.suites.specs.Shelves.{ShelvesValue, pool}
 use Rattle.suites.specs.declared.shelves.SharedFile.{SharedFile}
 use Rattle.suites.proofs.CountLemmas.{count_at-nil}
 
-no_length : {A : Type 0} (es : List A) → length es ≡ 0 → es ≡ []
-no_length [] e = refl
-no_length (x ∷ es) e = absurd (omega arith)
-
 pub entries-empty : {K : Type 0} (R : K → K → Ordering) (X : Type 0) → entries (empty {X = X} {R = R}) ≡ []
-entries-empty R X = no_length _ (sym (len-entries empty) ∙ len-empty R X)
+entries-empty R X = nil_from_length _ (sym (len-entries empty) ∙ len-empty R X)
 
 -- the print of a shared file is the one that is found at the path
 pub print-shared_at : (p : List ℕ) (fs : List (List ℕ × Print)) → option_map (λ (f : SharedFile). f.print) (shared_at p fs) ≡ find text_order p fs

@@ -16,20 +16,9 @@ use Rattle.suites.specs.Keys.{key_order}
 use Rattle.suites.specs.Shelves.{ShelvesWith, is_at_least, is_above, covers, beats, shown, shown_after, is_covered, with_admitted}
 use Rattle.suites.specs.declared.key.ShelfKey.{ShelfKey}
 use Rattle.suites.specs.KeyLemmas.{key_order_total, key_order-IsAntisymmetric}
-use Rattle.std.proofs.lemmas.Bool.{or_left}
-use Rattle.suites.proofs.HeldLemmas.{IsRanking, held-push, held_behind-settled, clear-none, Settled, settled-held_behind, any_beats, or_first, or_second, or_none, append_nil, by_pushes}
-
-and_first : (a b : Bool) → (a && b) ≡ true → a ≡ true
-and_first true b e = refl
-and_first false b e = e
-
-and_second : (a b : Bool) → (a && b) ≡ true → b ≡ true
-and_second true b e = e
-and_second false b e = cc
-
-and_both : (a b : Bool) → a ≡ true → b ≡ true → (a && b) ≡ true
-and_both true b p q = q
-and_both false b p q = cc
+use Rattle.std.proofs.lemmas.Bool.{or_left, or_from, and_from, and_right, not-false, and_parts}
+use Rattle.suites.proofs.HeldLemmas.{IsRanking, held-push, held_behind-settled, clear-none, Settled, settled-held_behind, any_beats, or_first, or_second, append_nil, by_pushes}
+use Rattle.suites.proofs.ListTests.{option_or_none}
 
 same : ShelfKey → ShelfKey → Bool
 same = eq_by_cmp key_order
@@ -46,7 +35,7 @@ reversed r Less e h = ap (λ o. not (is_lt o)) e
 reversed r Equal e h = cc
 reversed r Greater e h = cc
 
-is_less : (r : Ordering) → is_lt r ≡ true → r ≡ Less
+pub is_less : (r : Ordering) → is_lt r ≡ true → r ≡ Less
 is_less Less e = refl
 is_less Equal e = cc
 is_less Greater e = cc
@@ -61,11 +50,7 @@ above-not v w h = ap not h
 
 pub not_at_least : (v w : List ℕ) → is_at_least v w ≡ false → is_above w v ≡ true
 unfolding is_above is_at_least
-not_at_least v w h = unturned (is_lt (version_cmp v w)) h
-  where
-    unturned : (b : Bool) → not b ≡ false → b ≡ true
-    unturned true e = refl
-    unturned false e = cc
+not_at_least v w h = not-false (is_lt (version_cmp v w)) h
 
 less_trans : (u v w : List ℕ) → is_lt (version_cmp u v) ≡ true → is_lt (version_cmp v w) ≡ true → is_lt (version_cmp u w) ≡ true
 less_trans u v w p q = ap is_lt (version_cmp_total.trans u v w (is_less _ p) (is_less _ q))
@@ -112,19 +97,15 @@ module _ {X : Type 0} (version : X → List ℕ) where
   pub ranking : IsRanking (covers version) (beats version)
   unfolding covers beats same
   ranking = record {
-    trans = λ x y z p q. and_both _ _
-        (same-trans x.0 y.0 z.0 (and_first _ _ p) (and_first _ _ q))
-        (at_least-trans (version x.1) (version y.1) (version z.1) (and_second _ _ p) (and_second _ _ q));
-    weaker = λ x y p. and_both _ _ (and_first _ _ p) (above-at_least (version x.1) (version y.1) (and_second _ _ p));
-    apart = λ x y p. and_neither (same y.0 x.0) _ (above-not (version x.1) (version y.1) (and_second _ _ p));
-    above = λ x y z p q. and_both _ _
-        (same-trans x.0 y.0 z.0 (and_first _ _ p) (and_first _ _ q))
-        (at_least-above (version x.1) (version y.1) (version z.1) (and_second _ _ p) (and_second _ _ q));
+    trans = λ x y z p q. and_from _ _
+        (same-trans x.0 y.0 z.0 (and_parts _ _ p).0 (and_parts _ _ q).0)
+        (at_least-trans (version x.1) (version y.1) (version z.1) (and_parts _ _ p).1 (and_parts _ _ q).1);
+    weaker = λ x y p. and_from _ _ (and_parts _ _ p).0 (above-at_least (version x.1) (version y.1) (and_parts _ _ p).1);
+    apart = λ x y p. and_right (same y.0 x.0) _ (above-not (version x.1) (version y.1) (and_parts _ _ p).1);
+    above = λ x y z p q. and_from _ _
+        (same-trans x.0 y.0 z.0 (and_parts _ _ p).0 (and_parts _ _ q).0)
+        (at_least-above (version x.1) (version y.1) (version z.1) (and_parts _ _ p).1 (and_parts _ _ q).1);
   }
-    where
-      and_neither : (a b : Bool) → b ≡ false → (a && b) ≡ false
-      and_neither true b e = e
-      and_neither false b e = refl
 
   abbrev found : ShelfKey → List (ShelfKey × X) → Option X
   found q items = find key_order q items
@@ -149,7 +130,7 @@ module _ {X : Type 0} (version : X → List ℕ) where
       elim (same y.0 w.0) as (λ t. same y.0 w.0 ≡ t → (covers version w y || list_any (λ z. covers version z y) ws) ≡ option_map_or (is_reached y.1) (cond t (Some w.1) (found y.0 ws)) false) [
         | true ↦ λ at. elim (is_reached y.1 w.1) as (λ u. is_reached y.1 w.1 ≡ u → (covers version w y || list_any (λ z. covers version z y) ws) ≡ u) [
           | true ↦ λ yes. or_left _ _ (covers-parts w y true true (flipped y.0 w.0 true at) yes)
-          | false ↦ λ no. or_none _ _ (covers-parts w y true false (flipped y.0 w.0 true at) no)
+          | false ↦ λ no. or_from _ _ (covers-parts w y true false (flipped y.0 w.0 true at) no)
               (elim (list_any (λ z. covers version z y) ws) as (λ r. list_any (λ z. covers version z y) ws ≡ r → r ≡ false) [
                 | true ↦ λ some. (let beaten : list_any (λ z. beats version z w) ws ≡ true = any_beats (covers version) (beats version) ranking y w ws (beats-parts y w true true at (not_at_least _ _ no)) some in let none : list_any (λ z. beats version z w) ws ≡ false = settled.0 in cc)
                 | false ↦ λ none. refl
@@ -221,17 +202,17 @@ module _ {X : Type 0} (version : X → List ℕ) where
   unfolding same
   any-apart w [] below = (refl, refl)
   any-apart w (v ∷ vs) below =
-      let apart : same w.0 v.0 ≡ false = less_apart (key_order w.0 v.0) (and_first (is_lt (key_order w.0 v.0)) (below_all key_order w.0 vs) below) in
-      let rest = any-apart w vs (and_second (is_lt (key_order w.0 v.0)) (below_all key_order w.0 vs) below) in (
-        or_none _ _ (beats-parts v w false _ (flipped w.0 v.0 false apart) refl) rest.0,
-        or_none _ _ (covers-parts w v false _ apart refl) rest.1,
+      let apart : same w.0 v.0 ≡ false = less_apart (key_order w.0 v.0) (and_parts (is_lt (key_order w.0 v.0)) (below_all key_order w.0 vs) below).0 in
+      let rest = any-apart w vs (and_parts (is_lt (key_order w.0 v.0)) (below_all key_order w.0 vs) below).1 in (
+        or_from _ _ (beats-parts v w false _ (flipped w.0 v.0 false apart) refl) rest.0,
+        or_from _ _ (covers-parts w v false _ apart refl) rest.1,
       )
 
   settled-sorted : (es : List (ShelfKey × X)) → is_sorted key_order es ≡ true → Settled (covers version) (beats version) es
   settled-sorted [] sorted = tt
   settled-sorted (w ∷ ws) sorted =
-      let apart = any-apart w ws (and_first (below_all key_order w.0 ws) (is_sorted key_order ws) sorted) in
-      (apart.0, (apart.1, settled-sorted ws (and_second (below_all key_order w.0 ws) (is_sorted key_order ws) sorted)))
+      let apart = any-apart w ws (and_parts (below_all key_order w.0 ws) (is_sorted key_order ws) sorted).0 in
+      (apart.0, (apart.1, settled-sorted ws (and_parts (below_all key_order w.0 ws) (is_sorted key_order ws) sorted).1))
 
   held-entries : (m : ShelvesWith X) → held (covers version) (beats version) (entries m) ≡ entries m
   held-entries m = held_behind-settled (covers version) (beats version) [] (entries m) (settled-sorted (entries m) (true_from_T _ (entries_sorted m))) (clear-none (covers version) (beats version) (entries m))
@@ -254,15 +235,11 @@ module _ {X : Type 0} (version : X → List ℕ) where
         | false ↦ λ e. found-push q (filter (λ w. not (beats version a w)) hs) a
             ∙ (elim (same q a.0) as (λ t. same q a.0 ≡ t → option_or (found q (filter (λ w. not (beats version a w)) hs)) (cond t (Some a.1) None) ≡ cond t (Some a.1) (get (shown version xs) q)) [
               | true ↦ λ at. ap (λ o. option_or o (Some a.1)) (gone-filter q a hs at e)
-              | false ↦ λ at. or_none_end (found q (filter (λ w. not (beats version a w)) hs)) ∙ kept-filter q a hs at ∙ sym (get-shown xs q)
+              | false ↦ λ at. option_or_none (found q (filter (λ w. not (beats version a w)) hs)) ∙ kept-filter q a hs at ∙ sym (get-shown xs q)
             ] refl)
             ∙ sym (get-insert key_order_total (shown version xs) a.0 a.1 q)
       ] refl
       ∙ ap (λ t. get (cond t (shown version xs) (insert (shown version xs) a.0 a.1)) q) (sym covered))
-    where
-      or_none_end : (o : Option X) → option_or o None ≡ o
-      or_none_end None = refl
-      or_none_end (Some x) = refl
 
   -- nothing admitted, nothing changed
   pub shown_after-none : (m : ShelvesWith X) → shown_after version m [] ≡ m

@@ -10,9 +10,10 @@ use Rattle.std.specs.List.{find, filter, list_any, list_all}
 use Rattle.std.specs.Str.{bytes_eq}
 use Rattle.records.specs.Records.{is_among}
 use Rattle.sums.specs.declared.entries.Entry.{Entry}
+use Rattle.sums.proofs.Words.{list_any-map}
 use Rattle.suites.specs.Upload.{has_suffix, stem, entry_named}
 use Rattle.suites.specs.Verdict.{names_of, names_with, stems, are_among}
-use Rattle.suites.proofs.ListTests.{same_find, filter-map, list_any-filter, list_all-filter, list_any-map}
+use Rattle.suites.proofs.ListTests.{same_find, filter-map, list_any-filter, list_all-filter}
 
 pub counted : (suffix : List ℕ) (entries : List Entry) → length (filter (λ e. has_suffix suffix e.name) entries) ≡ length (names_with suffix entries)
 unfolding names_with
@@ -23,9 +24,9 @@ pub among_stems : (suffix : List ℕ) (entries : List Entry) (front : List ℕ)
     → is_among (stems suffix entries) front ≡ list_any (λ e. has_suffix suffix e.name && bytes_eq front (stem suffix e.name)) entries
 unfolding stems names_with
 among_stems suffix entries front =
-    list_any-map (bytes_eq front) (stem suffix) (filter (has_suffix suffix) (names_of entries))
+    list_any-map (stem suffix) (bytes_eq front) (filter (has_suffix suffix) (names_of entries))
     ∙ list_any-filter (λ name. bytes_eq front (stem suffix name)) (has_suffix suffix) (names_of entries)
-    ∙ list_any-map (λ name. has_suffix suffix name && bytes_eq front (stem suffix name)) (λ e. e.name) entries
+    ∙ list_any-map (λ e. e.name) (λ name. has_suffix suffix name && bytes_eq front (stem suffix name)) entries
 
 all_stems : (suffix : List ℕ) (entries : List Entry) (test : List ℕ → Bool)
     → list_all test (stems suffix entries) ≡ list_all (λ e. not (has_suffix suffix e.name) || test (stem suffix e.name)) entries

@@ -1,20 +1,16 @@
 -- The files of an upload with their texts, as far as they have been taken.
 use Rattle.std.proofs.Common.{◌≡◌, ℕ, ◌+◌, ◌<◌, Bool, true, false, cond, List, [], ◌∷◌, ◌++◌, map, length, take, get_or, refl, sym, ap, ◌∙◌, arith}
-use Rattle.std.proofs.lemmas.List.{take_all, map-append}
+use Rattle.std.proofs.lemmas.List.{take_all, map-append, length_push}
 use Rattle.std.proofs.lemmas.List.Elements.{filter_more}
 use Rattle.std.proofs.lemmas.Slice.Zip.{length-zip, get_or-zip}
 use Rattle.std.specs.List.{filter, zip}
 use Rattle.sums.specs.declared.entries.Entry.{Entry}
 use Rattle.suites.specs.Upload.{UploadValue, Part, has_suffix, parts_with}
 
-length_one_more : {Y : Type 0} (ys : List Y) (y : Y) → length (ys ++ y ∷ []) ≡ length ys + 1
-length_one_more [] y = refl
-length_one_more (z ∷ ys) y = let e = length_one_more ys y in omega arith
-
 one_more : {X Y : Type 0} (q : X → Bool) (all : List X) (ys : List Y) (y : Y) (x : X) (b : Bool) → length ys < length all → get_or all (length ys) x ≡ x → q x ≡ b
     → filter q (take (length (ys ++ y ∷ [])) all) ≡ filter q (take (length ys) all) ++ cond b (x ∷ []) []
 one_more q all ys y x b less here e =
-    ap (λ n. filter q (take n all)) (length_one_more ys y) ∙ filter_more q all (length ys) x less
+    ap (λ n. filter q (take n all)) (length_push ys y) ∙ filter_more q all (length ys) x less
     ∙ ap (λ z. filter q (take (length ys) all) ++ cond (q z) (z ∷ []) []) here
     ∙ ap (λ t. filter q (take (length ys) all) ++ cond t (x ∷ []) []) e
 

@@ -1,8 +1,8 @@
 -- What is shown stays as records say.
-use Rattle.std.proofs.Common.{◌≡◌, ◌⊎◌, inl, inr, ℕ, Bool, true, false, cond, ◌&&◌, ◌||◌, List, [], ◌∷◌, ◌++◌, map, filter, filter_map, codes, Option, Some, None, option_map, option_to_list, Result, Ok, Err, refl, sym, ap, ◌∙◌, subst, bytes_eq}
+use Rattle.std.proofs.Common.{◌≡◌, ◌⊎◌, inl, inr, ℕ, Bool, true, false, cond, ◌&&◌, ◌||◌, List, [], ◌∷◌, ◌++◌, map, filter, codes, Option, Some, option_map, option_to_list, Result, Ok, Err, refl, sym, ap, ◌∙◌, subst, bytes_eq}
 use Rattle.std.specs.Prelude.{Contains, option_and_then, slice_get, nat_eq}
 use Rattle.std.specs.FinMap.{empty, entries, get-from_entries}
-use Rattle.std.specs.List.{cons_option, list_any}
+use Rattle.std.specs.List.{list_any}
 use Rattle.std.specs.Result.{result_ok}
 use Rattle.std.proofs.lemmas.List.Elements.{All-contains, All-nil, Contains-append_cases}
 use Rattle.std.proofs.lemmas.Option.{same_Some}
@@ -35,7 +35,7 @@ use Rattle.suites.specs.declared.key.ShelfKey.{ShelfKey}
 use Rattle.suites.proofs.AcceptedParts.{IsOwnDsc, IsOwnSidecar, dsc_print, good_dsc, good_sidecar, has_package_file, kept_architecture, own_dsc, own_sidecar, part_from, stem_of_sidecar, with_source}
 use Rattle.suites.proofs.AcceptedRows.{IsAccepted, is_accepted}
 use Rattle.suites.proofs.FileMembers.{member_found, shown_entry}
-use Rattle.suites.proofs.ListMembers.{from_filter, from_flat_map, from_zip, only}
+use Rattle.suites.proofs.ListMembers.{from_filter, from_flat_map, from_zip, only, from_filter_map}
 use Rattle.suites.proofs.SharedLemmas.{entries-empty}
 
 -- ---- what is shown was shown or is admitted
@@ -168,19 +168,6 @@ suite_at config c place s is at = sym (ap (option_and_then (slice_get config.sui
 read_as : {V E Y : Type 0} (r : Result V E) (make : V → Y) (y : Y) → option_map make (result_ok r) ≡ Some y → (v : V) × (r ≡ Ok v) × (make v ≡ y)
 read_as (Ok v) make y e = (v, refl, same_Some (make v) y e)
 read_as (Err f) make y e = cc
-
-made_or_not : {X Y : Type 0} (f : X → Option Y) (y : Y) (x : X) (xs : List X) (o : Option Y) → f x ≡ o → Contains (cons_option o (filter_map f xs)) y
-    → (Contains (filter_map f xs) y → (z : X) × Contains xs z × (f z ≡ Some y)) → (z : X) × Contains (x ∷ xs) z × (f z ≡ Some y)
-made_or_not f y x xs None made h more = let m = more h in (m.0, there x m.0 xs m.1, m.2)
-made_or_not f y x xs (Some v) made h more = elim (which v y (filter_map f xs) h) [
-  | inl same ↦ (x, here x xs, made ∙ ap Some same)
-  | inr rest ↦ let m = more rest in (m.0, there x m.0 xs m.1, m.2)
-]
-
--- what a member of the list makes
-from_filter_map : {X Y : Type 0} (f : X → Option Y) (y : Y) (xs : List X) → Contains (filter_map f xs) y → (x : X) × Contains xs x × (f x ≡ Some y)
-from_filter_map f y [] h = no_member y h
-from_filter_map f y (x ∷ xs) h = made_or_not f y x xs (f x) refl h (from_filter_map f y xs)
 
 module _ (config : ConfigValue) (shelves : ShelvesValue) (u : UploadValue) (upload : IsUpload u) (accepted : IsAccepted config shelves u) (place : ℕ)
     (at : claiming u.changes.distribution config.suites ≡ Some place) where

@@ -70,7 +70,8 @@ all_held {X = X} version earlier (x ∷ later) apart sorted =
     pushed y z q above before (inl p) = before p
     pushed y z q above before (inr same) = subst (λ w. AreApart w z) same (above z q)
 
-entries_again : (m : ShelvesValue) → from_entries (entries m) ≡ m
+-- the entries of a map give it back
+pub entries_again : (m : ShelvesValue) → from_entries (entries m) ≡ m
 entries_again m =
     same_map key_order_total key_order-IsAntisymmetric (from_entries (entries m)) m (λ q. get-from_entries key_order_total (entries m) q ∙ sym (get-entries m q))
 

@@ -1,3 +1,4 @@
+pub mod Codenames
 pub mod Held
 pub mod Keys
 pub mod KeyLemmas

@@ -15,7 +15,7 @@ use std::alloc::{AllocError, Global};
 
 /// Whether a removal takes what stands on the shelf: it is of the suite, and the package has the name.
 #[tactic(auto, unfolding(crate::specs::Plan::is_removed))]
-fn is_removed(suite: usize, name: &str, key: &ShelfKey, item: &Item) -> bool
+pub fn is_removed(suite: usize, name: &str, key: &ShelfKey, item: &Item) -> bool
     ensures { result ≡ removes suite name.now (key.now, item.now) }
 {
     let _ = item;

@@ -176,7 +176,7 @@ fn print_in_pool(
 
 /// Whether a file that the .dsc lists is neither in the .changes nor in the pool, at its path with that print.
 #[tactic(auto, unfolding(crate::specs::Verdict::is_missing_file))]
-fn is_missing(
+pub fn is_missing(
     alloc: Global,
     component: &str,
     shelves: &Shelves,
@@ -216,7 +216,7 @@ fn lacks_a_file(
 
 /// Whether the pool holds other contents at the path of the entry's file.
 #[tactic(auto, unfolding(crate::specs::Verdict::is_taken))]
-fn is_taken(
+pub fn is_taken(
     alloc: Global,
     component: &str,
     shelves: &Shelves,

@@ -1,6 +1,7 @@
 use Rattle.std.proofs.Common.{◌≡◌, ◌≢◌, Bool, true, false, List, filter_map, map, Some, None, option_map, if◌then◌else◌, refl, sym, ap, subst, ◌∙◌}
 use Rattle.std.specs.Prelude.{All, AllPairs}
 use Rattle.std.specs.FinMap.{entries, entries_sorted, from_entries}
+use Rattle.std.proofs.lemmas.Option.{same_Some}
 use Rattle.rules.proofs.Apart.{claim_apart}
 use Rattle.rules.specs.declared.suite.Suite.{Suite}
 use Rattle.suites.specs.Items.{IsAtHome}
@@ -22,10 +23,7 @@ found shown es was now old new left right h =
   where
     by_test : (b : Bool) → all_stay old new shown ≡ b → Some es ≡ (if b then Some (filter_map (moved_entry old new) (entries shown)) else None)
         → (all_stay old new shown ≡ true) × (es ≡ filter_map (moved_entry old new) (entries shown))
-    by_test true is f = (is, some_same f)
-      where
-        some_same : Some es ≡ Some (filter_map (moved_entry old new) (entries shown)) → es ≡ filter_map (moved_entry old new) (entries shown)
-        some_same g = cc
+    by_test true is f = (is, same_Some es (filter_map (moved_entry old new) (entries shown)) f)
     by_test false is f = cc
 
 pub shelves_with-requires-clause-home : goal.shelves_with-requires-clause-home

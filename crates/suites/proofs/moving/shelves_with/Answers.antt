@@ -3,6 +3,7 @@ use Rattle.std.specs.Prelude.{All, AllPairs}
 use Rattle.std.specs.FinMap.{find, get, values}
 use Rattle.std.specs.Option.{option_or}
 use Rattle.std.proofs.lemmas.List.Elements.{All-head, All-tail}
+use Rattle.std.proofs.lemmas.List.{nil_from_length}
 use Rattle.sums.proofs.Members.{pairs_head, pairs_tail}
 use Rattle.suites.specs.Items.{IsAtHome}
 use Rattle.suites.specs.Keys.{key_order}
@@ -10,7 +11,7 @@ use Rattle.suites.specs.Pool.{AreAgreed, files_of}
 use Rattle.suites.specs.Shelves.{ShelvesValue}
 use Rattle.suites.specs.declared.item.Item.{Item}
 use Rattle.suites.specs.declared.key.ShelfKey.{ShelfKey}
-use Rattle.suites.proofs.MovedLoops.{agreed_then, all_there, free_then, joins, left_then, nothing_left, start}
+use Rattle.suites.proofs.MovedLoops.{agreed_then, all_there, free_then, joins, left_then, start}
 use Rattle.suites.proofs.moving.shelves_with.Goals as goal
 
 pub loop-key-init : goal.loop-key-init
@@ -64,5 +65,5 @@ loop-key-preserved c =
 pub returns : goal.returns
 returns c =
     let rest = c.loop-key.key-iterator.rest.items in
-    let none = nothing_left rest (sym c.loop-key.key-iterator.rest.ok.0 ∙ c.in-None.ensures.steps.0) in
+    let none = nil_from_length rest (sym c.loop-key.key-iterator.rest.ok.0 ∙ c.in-None.ensures.steps.0) in
     all_there c.loop-key.shelves c.args.entries.items (λ k. ap (λ (es : List (ShelfKey × Item)). option_or (get c.loop-key.shelves k) (find key_order k es)) (sym none) ∙ c.loop-key.invariant.left k)

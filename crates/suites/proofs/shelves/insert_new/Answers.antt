@@ -2,12 +2,13 @@ use Rattle.std.proofs.Common.{◌≡◌, List, ◌∷◌, map, refl, sym, ap, �
 use Rattle.std.specs.FinMap.{FinMap, get, from_entries}
 use Rattle.std.specs.List.{list_any}
 use Rattle.std.specs.Ordering.{eq_by_cmp}
+use Rattle.std.proofs.lemmas.List.{nil_from_length}
 use Rattle.suites.specs.Change.{with_all}
 use Rattle.suites.specs.Keys.{key_order}
 use Rattle.suites.specs.KeyLemmas.{key_order_total, key_order-IsAntisymmetric}
 use Rattle.suites.specs.declared.item.Item.{Item}
 use Rattle.suites.specs.declared.key.ShelfKey.{ShelfKey}
-use Rattle.suites.proofs.ItemChanges.{others_more, taken_back, no_items}
+use Rattle.suites.proofs.ItemChanges.{others_more, taken_back}
 use Rattle.suites.proofs.Failures.{on_failure, on_success}
 use Rattle.suites.proofs.shelves.insert_new.Goals as goal
 
@@ -45,5 +46,5 @@ returns-then-is_err-clause-err c =
 pub returns-clause-ok : goal.returns-clause-ok
 unfolding with_all
 returns-clause-ok c =
-    ap (with_all (from_entries {R = key_order} c.loop-key.items.entries)) (sym (no_items c.loop-key.key-iterator.rest.items (sym c.loop-key.key-iterator.rest.ok.0 ∙ c.in-None.ensures.steps.0)))
+    ap (with_all (from_entries {R = key_order} c.loop-key.items.entries)) (sym (nil_from_length c.loop-key.key-iterator.rest.items (sym c.loop-key.key-iterator.rest.ok.0 ∙ c.in-None.ensures.steps.0)))
     ∙ c.loop-key.invariant.so_far

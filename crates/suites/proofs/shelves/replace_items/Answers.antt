@@ -2,12 +2,13 @@ use Rattle.std.proofs.Common.{◌≡◌, true, List, ◌∷◌, sym, ap, subst, 
 use Rattle.std.specs.Prelude.{All}
 use Rattle.std.specs.FinMap.{FinMap, get, contains_key, from_entries}
 use Rattle.std.proofs.lemmas.List.Elements.{All-head, All-tail}
+use Rattle.std.proofs.lemmas.List.{nil_from_length}
 use Rattle.suites.specs.Change.{with_all}
 use Rattle.suites.specs.Keys.{key_order}
 use Rattle.suites.specs.KeyLemmas.{key_order_total}
 use Rattle.suites.specs.declared.item.Item.{Item}
 use Rattle.suites.specs.declared.key.ShelfKey.{ShelfKey}
-use Rattle.suites.proofs.ItemChanges.{must_succeed, still_there, no_items}
+use Rattle.suites.proofs.ItemChanges.{must_succeed, still_there}
 use Rattle.suites.proofs.shelves.replace_items.Goals as goal
 
 pub loop-key-init : goal.loop-key-init
@@ -40,5 +41,5 @@ loop-key-preserved c =
 pub returns-clause-replaced : goal.returns-clause-replaced
 unfolding with_all
 returns-clause-replaced c =
-    ap (with_all (from_entries {R = key_order} c.loop-key.items.entries)) (sym (no_items c.loop-key.key-iterator.rest.items (sym c.loop-key.key-iterator.rest.ok.0 ∙ c.in-None.ensures.steps.0)))
+    ap (with_all (from_entries {R = key_order} c.loop-key.items.entries)) (sym (nil_from_length c.loop-key.key-iterator.rest.items (sym c.loop-key.key-iterator.rest.ok.0 ∙ c.in-None.ensures.steps.0)))
     ∙ c.loop-key.invariant.so_far
