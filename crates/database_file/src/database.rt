@@ -7,9 +7,9 @@
 
 ghost use Rattle.std.specs.Prelude.{◌≤◌};
 
+use book::{KeepFault, LATEST};
 use file_store::{Store, connect, copied, disconnect};
 use in_file::{InFile, OpenFault};
-use keep::{KeepFault, LATEST};
 use keep_tables::{InOrder, LAYOUT, TableKeeper, fault_of, layout_of};
 use old_book::OldBook;
 use rules::Config;

@@ -15,7 +15,7 @@
 //! except an empty file and a file of a single byte: the store takes these for a database that it has begun, and makes a database without
 //! tables of it.
 
-use keep::KeepFault;
+use book::KeepFault;
 use sqlite::{Connection, FileFrom, FileStore, Options, Wary};
 use sqlite_disk::Disk;
 use sqlite_std_file::OpenError;

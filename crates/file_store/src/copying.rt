@@ -4,7 +4,7 @@
 //! While the older file is copied, SQLite's lock of readers keeps out whoever writes it.
 
 use crate::connecting::{BETWEEN_TRIES, TRIES};
-use keep::KeepFault;
+use book::KeepFault;
 use os::RangeLock;
 use sqlite::Files;
 use sqlite_disk::{Disk, Memory};

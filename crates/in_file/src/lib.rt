@@ -3,7 +3,7 @@
 
 ghost use Rattle.std.specs.Prelude.{◌≤◌};
 
-use keep::{KeepFault, Keeper, LATEST};
+use book::{KeepFault, Keeper, LATEST};
 use rules::Config;
 
 /// Why the archive of a database file is not opened.

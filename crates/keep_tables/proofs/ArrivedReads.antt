@@ -9,10 +9,10 @@ use Rattle.sums.specs.Prints.{print as print_of, same_print}
 use Rattle.sums.specs.declared.print.Print.{Print}
 use Rattle.rules.specs.Values.{ConfigValue}
 use Rattle.suites.specs.Shelves.{ShelvesValue}
-use Rattle.keep.specs.Book.{arrived_file, is_arrival_of}
-use Rattle.keep.specs.declared.arrival.Arrival.{Arrival}
-use Rattle.keep.specs.declared.arrived.ArrivedFile.{ArrivedFile}
-use Rattle.keep.specs.declared.change.Judgement.{Judgement}
+use Rattle.book.specs.Book.{arrived_file, is_arrival_of}
+use Rattle.book.specs.declared.arrival.Arrival.{Arrival}
+use Rattle.book.specs.declared.arrived.ArrivedFile.{ArrivedFile}
+use Rattle.book.specs.declared.change.Judgement.{Judgement}
 use Rattle.tables.specs.Arrivals.{is_arrival}
 use Rattle.tables.specs.Bodies.{body_with}
 use Rattle.tables.specs.Rows.{Numbered, Rises, Tables, rows_of, tables_in}

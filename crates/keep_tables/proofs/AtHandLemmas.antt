@@ -4,6 +4,7 @@ use Rattle.std.specs.Option.{option_map}
 use Rattle.std.proofs.lemmas.List.Elements.{Contains-append_cases}
 use Rattle.std.proofs.lemmas.Option.{same_Some}
 use Rattle.std.proofs.lemmas.Slice.Eq.{bytes_eq-Decides}
+use Rattle.std.proofs.lemmas.Bool.{not-true}
 use Rattle.sqlite.specs.Effect.{Database}
 use Rattle.sums.proofs.Members.{all_at, any_true, from_map, here, no_member, there, which}
 use Rattle.sums.specs.Prints.{print as print_of, same_print}
@@ -11,19 +12,18 @@ use Rattle.sums.specs.declared.print.Print.{Print}
 use Rattle.rules.specs.Values.{ConfigValue}
 use Rattle.suites.proofs.ListMembers.{from_filter}
 use Rattle.suites.specs.Shelves.{ShelvesValue}
-use Rattle.texts.specs.Indices.{index_text}
-use Rattle.keep.proofs.Prints.{same_print-Decides}
-use Rattle.keep.specs.Book.{Book, amended, dates_past, is_kept, shown_past, text_at}
-use Rattle.keep.specs.Keeping.{AreRenewed}
-use Rattle.keep.specs.declared.change.Change.{Change}
-use Rattle.keep.specs.declared.change.IndexText.{IndexText}
-use Rattle.keep.specs.declared.change.Judgement.{Judgement}
+use Rattle.indices.specs.Indices.{index_text}
+use Rattle.book.proofs.Prints.{same_print-Decides}
+use Rattle.book.specs.Book.{Book, amended, dates_past, is_kept, shown_past, text_at}
+use Rattle.book.specs.Keeping.{AreRenewed}
+use Rattle.book.specs.declared.change.Change.{Change}
+use Rattle.book.specs.declared.change.IndexText.{IndexText}
+use Rattle.book.specs.declared.change.Judgement.{Judgement}
 use Rattle.tables.specs.Rows.{tables_in}
 use Rattle.tables_meaning.specs.Archives.{KeepsArchive, book_in_database}
 use Rattle.tables_meaning.specs.Kept.{book_in}
 use Rattle.tables_meaning.specs.Shown.{shown_in}
 use Rattle.tables_meaning.proofs.CallLemmas.{shown_here}
-use Rattle.tables_meaning.proofs.FinishedLemmas.{not_true}
 use Rattle.keep_tables.specs.AtHand.{AreAtHand, AreKnown, AreRenewedAtMost, NotesAtMost, is_of_another, is_print_of, is_renewed}
 use Rattle.keep_tables.specs.declared.text_prints.TextPrint.{TextPrint}
 
@@ -111,7 +111,7 @@ other_kept (Some body) (Some p) text other here = by_case (bytes_eq body text.te
 pub forgotten : (old new : List TextPrint) (texts : List IndexText) → new ≡ filter (λ p. not (is_renewed texts p.path)) old → AreRenewedAtMost old texts new
 forgotten old new texts is p at =
     let was = from_filter (λ (q : TextPrint). not (is_renewed texts q.path)) p old (subst (λ (ps : List TextPrint). Contains ps p) is at) in
-    inl (was.0, not_true (is_renewed texts p.path) was.1)
+    inl (was.0, not-true (is_renewed texts p.path) was.1)
 
 -- one more of the texts is noted
 pub noted_more : (old now new : List TextPrint) (texts : List IndexText) (text : IndexText) → Contains texts text → NotesAtMost now text.path (Some text.print) new

@@ -11,9 +11,9 @@ use Rattle.rules.specs.Values.{ConfigValue}
 use Rattle.sums.specs.Prints.{print as print_of}
 use Rattle.sums.specs.declared.print.Print.{Print}
 use Rattle.suites.specs.Shelves.{ShelvesValue}
-use Rattle.keep.specs.Book.{Book, at_moment, has_arrival, latest, span, with_delivery}
-use Rattle.keep.specs.Keeping.{IsDeliverable}
-use Rattle.keep.specs.declared.change.Judgement.{Judgement}
+use Rattle.book.specs.Book.{Book, at_moment, has_arrival, latest, span, with_delivery}
+use Rattle.book.specs.Keeping.{IsDeliverable}
+use Rattle.book.specs.declared.change.Judgement.{Judgement}
 use Rattle.tables.specs.Bodies.{body_with}
 use Rattle.tables.specs.Rows.{Tables, Holds, tables_in}
 use Rattle.tables.specs.declared.rows.BodyRow.{BodyRow}

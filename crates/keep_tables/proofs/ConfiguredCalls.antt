@@ -6,9 +6,9 @@ use Rattle.rules.specs.Configuration.{config_in}
 use Rattle.rules.specs.Values.{ConfigValue}
 use Rattle.suites.specs.Moved.{all_stay, moved}
 use Rattle.suites.specs.Shelves.{ShelvesValue}
-use Rattle.keep.specs.Book.{Book, latest}
-use Rattle.keep.specs.Configured.{reconfigured}
-use Rattle.keep.specs.declared.change.Judgement.{Judgement}
+use Rattle.book.specs.Book.{Book, latest}
+use Rattle.book.specs.Configured.{reconfigured}
+use Rattle.book.specs.declared.change.Judgement.{Judgement}
 use Rattle.tables.proofs.BookLemmas.{held_tables, is_archive}
 use Rattle.tables.specs.Rows.{Holds, Tables, tables_in}
 use Rattle.tables_meaning.specs.Archives.{KeepsArchive, KeepsLeft, book_in_database}

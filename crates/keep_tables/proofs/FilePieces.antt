@@ -9,8 +9,9 @@ use Rattle.sums.specs.Prints.{print as print_of}
 use Rattle.sums.proofs.Members.{all_at}
 use Rattle.rules.specs.Values.{ConfigValue}
 use Rattle.suites.specs.Shelves.{ShelvesValue}
-use Rattle.keep.specs.Pieces.{PieceValue, piece_of_body}
-use Rattle.keep.specs.declared.change.Judgement.{Judgement}
+use Rattle.book.specs.Pieces.{PieceValue, piece_of_body}
+use Rattle.book.specs.declared.change.Judgement.{Judgement}
+use Rattle.book.proofs.Finds.{found_in}
 use Rattle.tables.specs.Files.{is_file_at}
 use Rattle.tables.specs.Rows.{Rises, Tables, rows_of, tables_in}
 use Rattle.tables.specs.declared.rows.File.{File}
@@ -19,7 +20,7 @@ use Rattle.tables_meaning.specs.Archives.{KeepsArchive, book_in_database}
 use Rattle.tables_meaning.specs.Coming.{bytes_at}
 use Rattle.tables_meaning.specs.Finished.{finished}
 use Rattle.tables_meaning.specs.Kept.{AreStored, book_in, bytes_of, files_in, has_body, piece_at, piece_count, pieces_for, pieces_of}
-use Rattle.tables_meaning.proofs.AmendedLemmas.{found_in, print_is}
+use Rattle.tables_meaning.proofs.AmendedLemmas.{print_is}
 use Rattle.tables_meaning.proofs.BodyLemmas.{are_stored, row_of_body}
 use Rattle.tables_meaning.proofs.DeliveredLemmas.{numbered}
 use Rattle.tables_meaning.proofs.FinishedLemmas.{pieces_finished, print_finished}

@@ -1,12 +1,12 @@
 -- The rows without the bodies that are not whole.
-use Rattle.std.proofs.Common.{◌≡◌, ◌≢◌, ℕ, None, length, Bool, true, false, not, ◌&&◌, ◌||◌, cond, nat_eq, List, [], ◌∷◌, map, filter, All, IsTrue, refl, sym, ap, subst, ◌∙◌, arith}
+use Rattle.std.proofs.Common.{◌≡◌, ◌≢◌, ℕ, None, Bool, true, false, not, ◌&&◌, ◌||◌, cond, nat_eq, List, [], ◌∷◌, map, filter, All, IsTrue, refl, sym, ap, subst, ◌∙◌}
 use Rattle.std.specs.List.{AllByRecursion, list_any}
-use Rattle.std.proofs.lemmas.Bool.{and_right, eqb-true, or_parts}
-use Rattle.std.proofs.lemmas.Bool.Decides.{nat_tests}
+use Rattle.std.proofs.lemmas.Bool.{and_right, or_parts}
 use Rattle.std.proofs.lemmas.List.Elements.{All-from_recursion, recursion_from_All}
 use Rattle.std.proofs.lemmas.List.Folds.{Any-from_list_any}
 use Rattle.std.proofs.lemmas.List.Kept.{AllPairs-filter}
-use Rattle.sqlite_keyed.proofs.ListLemmas.{all_both, all_weaker, any_from_none, none_from_any}
+use Rattle.std.proofs.Math.Bool.{or-false}
+use Rattle.sqlite_keyed.proofs.ListLemmas.{all_both, all_weaker, none_from_any}
 use Rattle.tables.specs.Pieces.{is_of}
 use Rattle.tables.specs.Rows.{Numbered, Rises, Tables, rows_of, without}
 use Rattle.tables.specs.declared.rows.BodyRow.{BodyRow}
@@ -14,18 +14,16 @@ use Rattle.tables.specs.declared.rows.Piece.{Piece}
 use Rattle.tables_read.specs.All.{AreConstrained}
 use Rattle.tables_meaning.specs.Finished.{finished, is_of_unfinished, is_unfinished, without_all}
 use Rattle.tables_meaning.specs.Kept.{AreReadable, has_body}
-use Rattle.tables_meaning.proofs.Searches.{any_parts, any_same, filter_same_on, list_any-filter}
-use Rattle.tables_meaning.proofs.FinishedLemmas.{has_unfinished, or_false, tells}
+use Rattle.tables_meaning.proofs.Searches.{any_parts}
+use Rattle.tables_meaning.proofs.FinishedLemmas.{has_unfinished, tells, not_left}
 use Rattle.tables_meaning.proofs.SweptFinished.{and_true}
 use Rattle.tables_bodies.proofs.RemovedLemmas.{removed_each, taken_out}
+use Rattle.suites.proofs.ListTests.{filter_same_on, same_any, list_any-filter}
+use Rattle.tables_cleaning.proofs.CleanedRows.{is_numbered_turned}
 use Rattle.keep_tables.specs.Finishing.{are_named, is_among, unfinished_ids}
 use Rattle.tables_audit.specs.Whole.{KeepsNone}
 
 -- ---- tests and lists
-
-pub nil_if : (ids : List ℕ) → length ids ≡ 0 → ids ≡ []
-nil_if [] none = refl
-nil_if (n ∷ ns) none = absurd (omega (arith, none))
 
 -- ---- the numbers of bodies that are not whole
 
@@ -37,9 +35,6 @@ any_unfinished (x ∷ xs) id =
       | true ↦ λ i. and_true (nat_eq id x.0) i || more i
       | false ↦ λ i. and_right (nat_eq id x.0) false refl i || more i
     ]
-
-turned : (a b : ℕ) → nat_eq a b ≡ nat_eq b a
-turned a b = grind (arith, nat_tests)
 
 -- ---- the rows that are left
 
@@ -68,7 +63,7 @@ abbrev is_there : Numbered BodyRow → ℕ → Bool
 is_there bodies id = list_any (λ x. nat_eq x.0 id) bodies
 
 swapped : (u : Bool) (a b : ℕ) → (not (not u) && nat_eq a b) ≡ (nat_eq b a && u)
-swapped true a b = turned a b ∙ sym (and_true (nat_eq b a))
+swapped true a b = is_numbered_turned a b ∙ sym (and_true (nat_eq b a))
 swapped false a b = sym (and_right (nat_eq b a) false refl)
 
 -- a body that is there is left if it is whole
@@ -76,8 +71,8 @@ stays : (bodies : Numbered BodyRow) (id : ℕ) → is_there bodies id ≡ true �
 stays bodies id there none =
     let q = λ (x : ℕ × BodyRow). not (is_unfinished x) in
     let p = λ (x : ℕ × BodyRow). nat_eq x.0 id in
-    let others : list_any (λ x. not (q x) && p x) bodies ≡ false = any_same (λ x. not (q x) && p x) (λ x. nat_eq id x.0 && is_unfinished x) (λ x. swapped (is_unfinished x) x.0 id) bodies ∙ none in
-    list_any-filter p q bodies ∙ sym (or_false _) ∙ ap (λ b. list_any (λ x. q x && p x) bodies || b) (sym others) ∙ sym (any_parts q p bodies) ∙ there
+    let others : list_any (λ x. not (q x) && p x) bodies ≡ false = same_any (λ x. not (q x) && p x) (λ x. nat_eq id x.0 && is_unfinished x) (λ x. swapped (is_unfinished x) x.0 id) bodies ∙ none in
+    list_any-filter p q bodies ∙ sym (or-false _) ∙ ap (λ b. list_any (λ x. q x && p x) bodies || b) (sym others) ∙ sym (any_parts q p bodies) ∙ there
 
 owned_pieces : (t : Tables) (xs : Numbered Piece) → AllByRecursion (λ p. IsTrue (is_there t.bodies p.body)) (rows_of xs)
     → AllByRecursion (λ p. IsTrue (is_there (without is_unfinished t.bodies) p.body)) (rows_of (without (λ p. is_of_unfinished t p.1) xs))
@@ -127,14 +122,7 @@ readable_whole t whole is readable = subst AreReadable (sym is) readable
 -- ---- what names a body that is not whole
 
 gone : (bodies : Numbered BodyRow) (id : ℕ) → Rises bodies → is_among (unfinished_ids bodies) id ≡ true → is_there (without is_unfinished bodies) id ≡ false
-gone bodies id up among =
-    list_any-filter (λ x. nat_eq x.0 id) (λ x. not (is_unfinished x)) bodies
-    ∙ any_from_none (λ x. not (is_unfinished x) && nat_eq x.0 id) bodies
-    (all_weaker (λ y. has_unfinished bodies y.0 ≡ is_unfinished y) (λ y. (not (is_unfinished y) && nat_eq y.0 id) ≡ false) (λ y is. go y is (nat_eq y.0 id) refl) bodies (tells bodies up))
-  where
-    go : (y : ℕ × BodyRow) → has_unfinished bodies y.0 ≡ is_unfinished y → (b : Bool) → nat_eq y.0 id ≡ b → (not (is_unfinished y) && b) ≡ false
-    go y is true e = let u : is_unfinished y ≡ true = sym is ∙ ap (has_unfinished bodies) (eqb-true y.0 id e) ∙ any_unfinished bodies id ∙ among in rw u refl
-    go y is false e = and_right (not (is_unfinished y)) false refl
+gone bodies id up among = not_left bodies id up (any_unfinished bodies id ∙ among)
 
 no_owner : {X : Type 0} (bodies : Numbered BodyRow) (body : X → ℕ) (xs : List X) → Rises bodies → list_any (λ a. is_among (unfinished_ids bodies) (body a)) xs ≡ true
     → All (λ a. IsTrue (is_there (without is_unfinished bodies) (body a))) xs → ⊥

@@ -1,11 +1,9 @@
 -- An arrival that is looked for: if the pairs of the rows are apart, the one that is found is the only one.
-use Rattle.std.proofs.Common.{◌≡◌, ℕ, Bool, true, false, ◌&&◌, ◌||◌, cond, nat_eq, if◌then◌else◌, is_some, IsTrue, List, [], ◌∷◌, find, AllPairs, Option, Some, None, refl, sym, ap, subst, ◌∙◌}
-use Rattle.std.specs.Prelude.{bytes_eq}
+use Rattle.std.proofs.Common.{◌≡◌, ℕ, Bool, true, false, ◌&&◌, ◌||◌, cond, if◌then◌else◌, is_some, IsTrue, List, [], ◌∷◌, find, AllPairs, Option, Some, None, refl, sym, ap, subst, ◌∙◌}
 use Rattle.std.specs.List.{list_any}
 use Rattle.std.specs.Option.{option_map_or}
 use Rattle.std.proofs.lemmas.Bool.{false≢true}
-use Rattle.std.proofs.lemmas.Bool.Decides.{Decides-and, Decides-eqb}
-use Rattle.std.proofs.lemmas.Slice.Eq.{bytes_eq-Decides}
+use Rattle.std.proofs.Math.Bool.{or-false}
 use Rattle.sqlite.specs.State.{State}
 use Rattle.sqlite_trees.specs.Tree.{IsAscending}
 use Rattle.sqlite_keyed.proofs.ListLemmas.{all_weaker, any_from_none}
@@ -15,9 +13,10 @@ use Rattle.tables.specs.Rows.{Numbered, Tables, Holds, next_in, rows_of, tables_
 use Rattle.tables.specs.declared.rows.ArrivalRow.{ArrivalRow}
 use Rattle.tables.proofs.BookLemmas.{held_tables}
 use Rattle.sums.specs.declared.print.Print.{Print}
+use Rattle.sums.proofs.Words.{list_any-map}
 use Rattle.rules.specs.Values.{ConfigValue}
 use Rattle.suites.specs.Shelves.{ShelvesValue}
-use Rattle.keep.specs.declared.change.Judgement.{Judgement}
+use Rattle.book.specs.declared.change.Judgement.{Judgement}
 use Rattle.tables_bodies.specs.Counting.{arrival_counts}
 use Rattle.tables_meaning.specs.Archives.{KeepsArchive}
 use Rattle.tables_meaning.specs.Cleaning.{counts_row, is_current}
@@ -26,19 +25,12 @@ use Rattle.tables_meaning.specs.Finished.{finished, without_whole}
 use Rattle.tables_meaning.specs.Kept.{pieces_for}
 use Rattle.tables_meaning.specs.Making.{with_bytes, with_pieces}
 use Rattle.tables_meaning.proofs.BodyLemmas.{only_pieces}
-use Rattle.tables_meaning.proofs.Searches.{list_any-map, pairs_of_rows}
-use Rattle.tables_meaning.proofs.FinishedLemmas.{or_false}
+use Rattle.tables_meaning.proofs.Searches.{pairs_of_rows}
+use Rattle.tables_meaning.proofs.ArrivalLemmas.{alike}
 use Rattle.tables_counting.specs.Moments.{found_current}
 
 abbrev arrivals_of : Tables → Numbered ArrivalRow
 arrivals_of t = t.arrivals
-
--- two arrivals of one pair have the same name and body
-alike : (name : List ℕ) (id : ℕ) (a b : ArrivalRow) → is_arrival name id a ≡ true → is_arrival name id b ≡ true → is_arrival a.name a.body b ≡ true
-alike name id a b p q =
-    let first = (Decides-and (bytes_eq a.name name) (nat_eq a.body id) (bytes_eq-Decides a.name name) (Decides-eqb a.body id)).0 p in
-    let second = (Decides-and (bytes_eq b.name name) (nat_eq b.body id) (bytes_eq-Decides b.name name) (Decides-eqb b.body id)).0 q in
-    (Decides-and (bytes_eq b.name a.name) (nat_eq b.body a.body) (bytes_eq-Decides b.name a.name) (Decides-eqb b.body a.body)).1 (second.0 ∙ sym first.0, second.1 ∙ sym first.1)
 
 module _ (name : List ℕ) (id : ℕ) (q : ArrivalRow → Bool) where
   other : (x y : ℕ × ArrivalRow) → is_arrival name id x.1 ≡ true → is_arrival x.1.name x.1.body y.1 ≡ false → (is_arrival name id y.1 && q y.1) ≡ false
@@ -59,7 +51,7 @@ module _ (name : List ℕ) (id : ℕ) (q : ArrivalRow → Bool) where
       go true is more =
           let none = any_from_none (λ (y : ℕ × ArrivalRow). is_arrival name id y.1 && q y.1) xs
           (all_weaker (λ y. is_arrival x.1.name x.1.body y.1 ≡ false) (λ y. (is_arrival name id y.1 && q y.1) ≡ false) (λ y apart. other x y is apart) xs up.0) in
-          sym (ap (λ b. q x.1 || b) none ∙ or_false (q x.1))
+          sym (ap (λ b. q x.1 || b) none ∙ or-false (q x.1))
       go false is more = more
 
 module _ (t : Tables) (apart : AllPairs (λ a b. is_arrival a.name a.body b ≡ false) (rows_of t.arrivals)) (span : Option ℕ) (moment : ℕ) where
@@ -71,7 +63,7 @@ module _ (t : Tables) (apart : AllPairs (λ a b. is_arrival a.name a.body b ≡ 
   unfolding found_current is_current
   current_if_found name print =
       ap (λ (f : ℕ → Bool). option_map_or f (body_with print t.bodies) false)
-      (λ i id. (counts_if_some name id ∙ sym (list_any-map (λ a. is_arrival name id a && counts_row span moment a) (λ (x : ℕ × ArrivalRow). x.1) t.arrivals)) i)
+      (λ i id. (counts_if_some name id ∙ sym (list_any-map (λ (x : ℕ × ArrivalRow). x.1) (λ a. is_arrival name id a && counts_row span moment a) t.arrivals)) i)
 
 -- ---- the arrivals beside a body that has come
 

@@ -4,8 +4,8 @@ use Rattle.sqlite.specs.Held.{state}
 use Rattle.sqlite.specs.State.{HasCleanDisk}
 use Rattle.sqlite.specs.Store.{Ghosts}
 use Rattle.sqlite.specs.Tree.{Trees}
-use Rattle.keep.specs.Book.{Book}
-use Rattle.keep.specs.Keeping.{Stays}
+use Rattle.book.specs.Book.{Book}
+use Rattle.book.specs.Keeping.{Stays}
 use Rattle.tables_meaning.specs.Archives.{KeepsLeft}
 use Rattle.keep_tables.specs.Keepers.{table_book}
 use Rattle.keep_tables.specs.declared.keeper.TableKeeper.{TableKeeper}

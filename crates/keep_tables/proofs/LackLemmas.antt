@@ -8,10 +8,10 @@ use Rattle.sqlite_keyed.proofs.ListLemmas.{all-filter, all_weaker, map-map}
 use Rattle.sums.specs.declared.print.Print.{Print}
 use Rattle.suites.specs.Keys.{text_order}
 use Rattle.suites.specs.KeyLemmas.{text_order_total}
-use Rattle.keep.specs.Book.{is_arrival_of}
-use Rattle.keep.specs.declared.arrival.Arrival.{Arrival}
-use Rattle.keep.specs.declared.change.Judgement.{Judgement}
-use Rattle.keep.specs.declared.change.Lack.{Lack}
+use Rattle.book.specs.Book.{is_arrival_of}
+use Rattle.book.specs.declared.arrival.Arrival.{Arrival}
+use Rattle.book.specs.declared.change.Judgement.{Judgement}
+use Rattle.book.specs.declared.change.Lack.{Lack}
 use Rattle.tables.specs.Rows.{Tables, rows_of}
 use Rattle.tables.specs.Wants.{is_wanted_by}
 use Rattle.tables.specs.declared.rows.Want.{Want}
@@ -20,9 +20,9 @@ use Rattle.tables_meaning.specs.Kept.{AreArrivals, AreUploads, arrivals_in, want
 use Rattle.tables_meaning.specs.Reads.{lack_from, lacks_in, sorted_by}
 use Rattle.tables_meaning.proofs.OrderLemmas.{map-sorted_by}
 use Rattle.tables_meaning.proofs.RealUploads.{wants_here}
+use Rattle.tables_meaning.proofs.SortedLemmas.{all_sorted}
 use Rattle.keep_tables.specs.Moments.{lacks_at, name_order, wants_by_name}
 use Rattle.tables_counting.specs.Moments.{is_had}
-use Rattle.keep_tables.proofs.MomentLemmas.{all_sorted}
 
 -- the order of entries is total
 pub name_order_total : IsTotalOrder name_order

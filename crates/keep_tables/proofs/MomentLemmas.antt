@@ -1,11 +1,7 @@
 -- Lists of what the reads find at a moment, one more at a time.
 use Rattle.std.proofs.Common.{◌≡◌, ℕ, ◌+◌, ◌<◌, Bool, true, false, not, cond, if◌then◌else◌, List, [], ◌∷◌, filter, take, length, get_or, refl, sym, ap, ap₂, ◌∙◌}
-use Rattle.std.specs.List.{AllByRecursion}
-use Rattle.std.specs.Ordering.{is_gt}
-use Rattle.std.specs.declared.cmp.Ordering.{Ordering}
 use Rattle.std.proofs.lemmas.List.{length-append, take_more}
 use Rattle.std.proofs.lemmas.List.Elements.{filter-append}
-use Rattle.tables_meaning.specs.Reads.{put_by, sorted_by}
 
 length_one : {X : Type 0} (b : Bool) (y : X) → length (cond b (y ∷ []) []) ≡ (if b then 1 else 0)
 length_one true y = refl
@@ -23,15 +19,3 @@ counted_more {X} q xs i x count n within is before one =
     ap₂ ◌+◌ before (one ∙ turned (q x) ∙ ap (λ y. if p y then 1 else 0) is ∙ sym (length_one (p (get_or xs i x)) (get_or xs i x)))
     ∙ sym (length-append (filter p (take i xs)) (filter p (get_or xs i x ∷ [])))
     ∙ ap length (sym (filter-append p (take i xs) (get_or xs i x ∷ [])) ∙ ap (filter p) (sym (take_more xs i x within)))
-
-all_put : {X : Type 0} (P : X → Type 0) (order : X → X → Ordering) (x : X) (ys : List X) → P x → AllByRecursion P ys → AllByRecursion P (put_by order x ys)
-all_put P order x [] is all = (is, tt)
-all_put P order x (y ∷ ys) is all = elim (is_gt (order x y)) as (λ b. AllByRecursion P (if b then y ∷ put_by order x ys else x ∷ y ∷ ys)) [
-  | true ↦ (all.0, all_put P order x ys is all.1)
-  | false ↦ (is, all)
-]
-
--- what holds of each element holds of each once they are in order
-pub all_sorted : {X : Type 0} (P : X → Type 0) (order : X → X → Ordering) (xs : List X) → AllByRecursion P xs → AllByRecursion P (sorted_by order xs)
-all_sorted P order [] all = tt
-all_sorted P order (x ∷ xs) all = all_put P order x (sorted_by order xs) all.0 (all_sorted P order xs all.1)

@@ -3,10 +3,10 @@ use Rattle.std.proofs.Common.{◌≡◌, ℕ, ◌<◌, Bool, true, false, not, �
 use Rattle.std.specs.List.{AllByRecursion, cons_option, filter_map, list_any}
 use Rattle.std.specs.Option.{option_and_then, option_map_or}
 use Rattle.std.specs.Result.{result_ok}
-use Rattle.std.proofs.lemmas.Bool.{and_right, eqb-true}
+use Rattle.std.proofs.lemmas.Bool.{and_right, not-true}
 use Rattle.std.proofs.lemmas.List.{length-map, map-id}
 use Rattle.sqlite.specs.Effect.{Database}
-use Rattle.sqlite_keyed.proofs.ListLemmas.{all-filter, all_of, all_weaker, ascending-filter, filter-filter, filter-map, filter_all, filter_same, map_same}
+use Rattle.sqlite_keyed.proofs.ListLemmas.{all-filter, all_of, all_weaker, ascending-filter, filter-map, filter_all, filter_same, map_same}
 use Rattle.records.specs.Records.{changes_in}
 use Rattle.records.specs.Values.{ChangesValue}
 use Rattle.rules.specs.Values.{ConfigValue}
@@ -14,11 +14,11 @@ use Rattle.sums.specs.declared.entries.Entry.{Entry}
 use Rattle.sums.specs.declared.print.Print.{Print}
 use Rattle.suites.specs.Shelves.{ShelvesValue}
 use Rattle.suites.specs.Upload.{UploadValue, has_text}
-use Rattle.keep.specs.Book.{Book, at_moment, counts, counts_since, current, due, span, unjudged as unjudged_of, upload_of, waiting_list, waiting_of}
-use Rattle.keep.specs.declared.arrival.Arrival.{Arrival}
-use Rattle.keep.specs.declared.change.Judgement.{Judgement}
-use Rattle.keep.specs.declared.change.Lack.{Lack}
-use Rattle.keep.specs.declared.change.Waiting.{Waiting}
+use Rattle.book.specs.Book.{Book, at_moment, current, due, span, unjudged as unjudged_of, upload_of, waiting_list, waiting_of}
+use Rattle.book.specs.declared.change.Judgement.{Judgement}
+use Rattle.book.specs.declared.change.Lack.{Lack}
+use Rattle.book.specs.declared.change.Waiting.{Waiting}
+use Rattle.book.proofs.Moments.{current-none}
 use Rattle.tables.specs.Arrivals.{is_arrival}
 use Rattle.tables.specs.Rows.{Rises, Tables, rows_of, tables_in}
 use Rattle.tables.specs.Uploads.{is_judged as has_place}
@@ -40,14 +40,13 @@ use Rattle.tables_meaning.proofs.Searches.{filter_twice, map_same_on}
 use Rattle.tables_meaning.proofs.WaitingLemmas.{waits_are}
 use Rattle.tables_meaning.proofs.WantingLemmas.{only_one, wanting_unjudged}
 use Rattle.tables_meaning.proofs.SweptFinished.{and_true}
-use Rattle.tables_meaning.proofs.SweptLemmas.{unset}
+use Rattle.tables_meaning.proofs.SortedLemmas.{all_sorted}
 use Rattle.tables_cleaning.proofs.CurrentLemmas.{arrivals_current, arrivals_left}
-use Rattle.tables_cleaning.proofs.CurrentUploads.{uploads_left, wants_left}
+use Rattle.tables_cleaning.proofs.CurrentUploads.{rows_then as wants_turned, uploads_left, wants_left}
 use Rattle.keep_tables.specs.Moments.{due_at, lacks_at, missing_at, rows_at, waiting_at}
 use Rattle.tables_counting.specs.Moments.{found_current, is_had}
 use Rattle.keep_tables.proofs.FoundArrivals.{current_if_found}
 use Rattle.keep_tables.proofs.LackLemmas.{entries_here, lacks_turned}
-use Rattle.keep_tables.proofs.MomentLemmas.{all_sorted}
 
 -- ---- lists
 
@@ -88,10 +87,6 @@ abbrev due_if : ℕ → Option UploadValue → Option UploadValue
 due_if missing upload = if nat_eq missing 0 then upload else None
 
 -- ---- if what arrives counts for good
-
-for_good : (moment : ℕ) (arrivals : List Arrival) → current None moment arrivals ≡ arrivals
-unfolding current counts_since
-for_good moment arrivals = filter_all (counts None moment) arrivals (all_of (λ a. counts None moment a ≡ true) (λ a. refl) arrivals)
 
 rows_for_good : (moment : ℕ) (t : Tables) → rows_at None moment t ≡ wanting_rows t
 unfolding rows_at wanting_rows
@@ -180,20 +175,14 @@ module _ (t : Tables) (judged : List Judgement) (up : AreNumbered t) (stored : A
       (subst (AllByRecursion HasNotGone) (sym wanting_left)
       (all-filter HasNotGone unjudged (filter (λ x. not (ended x.1)) whole.uploads)
       (all_filtered HasNotGone (λ x. not (ended x.1)) whole.uploads
-      (all_weaker (λ x. has_gone x.0 ≡ ended x.1) (λ x. not (ended x.1) ≡ true → HasNotGone x) (λ x is stays. is ∙ unset (ended x.1) stays) whole.uploads
+      (all_weaker (λ x. has_gone x.0 ≡ ended x.1) (λ x. not (ended x.1) ≡ true → HasNotGone x) (λ x is stays. is ∙ not-true (ended x.1) stays) whole.uploads
       (only_one (λ x. ended x.1) whole.uploads whole_rises)))))
 
   -- ---- what they want
 
-  abbrev stays : Want → Bool
-  stays w = not (has_gone w.upload)
-
   -- a want is here if it counts
   abbrev turn : Want → Want
   turn w = cond (not (cur w.name w.print)) (record w { here = false }) w
-
-  turn_upload : (w : Want) → (turn w).upload ≡ w.upload
-  turn_upload w = elim (cur w.name w.print) as (λ b. (cond (not b) (record w { here = false }) w).upload ≡ w.upload) [ true ↦ refl | false ↦ refl ]
 
   turn_here : (w : Want) → (w.here && cur w.name w.print) ≡ (turn w).here
   turn_here w =
@@ -214,13 +203,7 @@ module _ (t : Tables) (judged : List Judgement) (up : AreNumbered t) (stored : A
   wants_then : (id : ℕ) → has_gone id ≡ false → filter (is_wanted_by id) (rows_of left.wants) ≡ map turn (filter (is_wanted_by id) (rows_of whole.wants))
   wants_then id none =
       ap (filter (is_wanted_by id)) (wants_left whole (Some seconds) moment)
-      ∙ filter-map (is_wanted_by id) turn (filter stays (rows_of whole.wants))
-      ∙ ap (map turn)
-      (filter_same (λ w. is_wanted_by id (turn w)) (is_wanted_by id) (λ w. ap (λ k. nat_eq k id) (turn_upload w)) (filter stays (rows_of whole.wants))
-      ∙ filter-filter (is_wanted_by id) stays its_own (rows_of whole.wants))
-    where
-      its_own : (w : Want) → is_wanted_by id w ≡ true → stays w ≡ true
-      its_own w mine = ap not (ap has_gone (eqb-true w.upload id mine) ∙ none)
+      ∙ wants_turned whole (Some seconds) moment id none (rows_of whole.wants)
 
   missing_then : (id : ℕ) → has_gone id ≡ false → missing_at (Some seconds) moment t id ≡ missing_in left id
   unfolding missing_at missing_in finished
@@ -313,7 +296,7 @@ module _ (db : Database) (config : ConfigValue) (judged : List Judgement) (shown
       let alike : (x : ℕ × UploadRow) → due_at None moment rows x ≡ due_in rows x = λ x. ap (λ n. due_if n (upload_in rows x.1)) (missing_for_good moment rows x.0) in
       ap (filter_map (due_at None moment rows)) (rows_for_good moment rows)
       ∙ made_same (due_at None moment rows) (due_in rows) (wanting_rows rows) (all_of (λ x. due_at None moment rows x ≡ due_in rows x) alike (wanting_rows rows))
-      ∙ dues_finished rows (book_then moment) rise.bodies rise.uploads (arrivals_then None same moment ∙ for_good moment (arrivals_in (finished rows))) (uploads_then moment)
+      ∙ dues_finished rows (book_then moment) rise.bodies rise.uploads (arrivals_then None same moment ∙ current-none moment (arrivals_in (finished rows))) (uploads_then moment)
       keeps.kept.bodies keeps.kept.arrivals
   dues_at (Some seconds) same moment =
       dues_then rows judged rise all_stored keeps.kept.arrivals keeps.kept.uploads seconds moment (book_then moment)
@@ -332,7 +315,7 @@ module _ (db : Database) (config : ConfigValue) (judged : List Judgement) (shown
       λ x. ap (waits_for x.1) (lacks_for_good moment rows judged keeps.kept.arrivals keeps.kept.uploads x.0) in
       ap (map (waiting_at None moment rows)) (rows_for_good moment rows)
       ∙ map_same (waiting_at None moment rows) (waiting_in (arrivals_in (finished rows)) rows) alike (wanting_rows rows)
-      ∙ waiting_finished rows (book_then moment) (arrivals_then None same moment ∙ for_good moment (arrivals_in (finished rows))) rise.uploads (uploads_then moment)
+      ∙ waiting_finished rows (book_then moment) (arrivals_then None same moment ∙ current-none moment (arrivals_in (finished rows))) rise.uploads (uploads_then moment)
   waits_over (Some seconds) same moment =
       waits_then rows judged rise all_stored keeps.kept.arrivals keeps.kept.uploads seconds moment (book_then moment)
       (arrivals_then (Some seconds) same moment ∙ sym (arrivals_current (finished rows) all_stored keeps.kept.arrivals (Some seconds) moment)) (judged_then moment)

@@ -9,8 +9,8 @@ use Rattle.sqlite.specs.State.{State, IsUnchanged}
 use Rattle.sqlite.specs.Tree.{Trees}
 use Rattle.rules.specs.Values.{ConfigValue}
 use Rattle.suites.specs.Shelves.{ShelvesValue}
-use Rattle.keep.specs.Book.{Book}
-use Rattle.keep.specs.declared.change.Judgement.{Judgement}
+use Rattle.book.specs.Book.{Book}
+use Rattle.book.specs.declared.change.Judgement.{Judgement}
 use Rattle.tables.proofs.BookLemmas.{held_tables, is_archive}
 use Rattle.tables.specs.Rows.{Tables, Holds, IsArchive, Numbered, Rises, rows_of, tables_in, without}
 use Rattle.tables.specs.Others.{IsArchiveSchema}
@@ -23,7 +23,7 @@ use Rattle.tables_meaning.proofs.CallLemmas.{kept_here, shown_here}
 use Rattle.tables_meaning.proofs.RealRows.{kept_readable, kept_real}
 use Rattle.tables_meaning.proofs.ComingLemmas.{none_coming}
 use Rattle.tables_meaning.proofs.FinishedLemmas.{finished_twice, shown_finished}
-use Rattle.texts.proofs.Paths.{config_codenames}
+use Rattle.indices.proofs.Paths.{config_codenames}
 use Rattle.tables_meaning.proofs.ShownLemmas.{shown_is}
 use Rattle.tables_meaning.proofs.UnderWayLemmas.{finished_under_way}
 use Rattle.tables_meaning.specs.Coming.{HasComing}

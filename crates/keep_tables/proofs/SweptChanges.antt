@@ -8,10 +8,10 @@ use Rattle.sqlite.specs.Tree.{Trees}
 use Rattle.sqlite.proofs.StateLemmas.{survives_then, survives_weaker}
 use Rattle.rules.specs.Values.{ConfigValue}
 use Rattle.suites.specs.Shelves.{ShelvesValue}
-use Rattle.keep.specs.Book.{latest}
-use Rattle.keep.specs.Keeping.{IsSound}
-use Rattle.keep.specs.declared.change.Change.{Change}
-use Rattle.keep.specs.declared.change.Judgement.{Judgement}
+use Rattle.book.specs.Book.{latest}
+use Rattle.book.specs.Keeping.{IsSound}
+use Rattle.book.specs.declared.change.Change.{Change}
+use Rattle.book.specs.declared.change.Judgement.{Judgement}
 use Rattle.tables.specs.Rows.{Tables, Holds, tables_in}
 use Rattle.tables.proofs.BookLemmas.{held_tables}
 use Rattle.tables_meaning.specs.Amending.{HasAllBodies}

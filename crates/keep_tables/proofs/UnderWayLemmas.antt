@@ -16,8 +16,8 @@ use Rattle.tables_meaning.proofs.FinishedLemmas.{finished_rises}
 use Rattle.tables_meaning.specs.Finished.{finished}
 use Rattle.rules.specs.Values.{ConfigValue}
 use Rattle.suites.specs.Shelves.{ShelvesValue}
-use Rattle.keep.specs.Keeping.{IsDeliverable, IsWholeFor, TakesPiece}
-use Rattle.keep.specs.declared.change.Judgement.{Judgement}
+use Rattle.book.specs.Keeping.{IsDeliverable, IsWholeFor, TakesPiece}
+use Rattle.book.specs.declared.change.Judgement.{Judgement}
 use Rattle.tables_bodies.specs.UnderWay.{IsBegun, IsUnderWay, coming_in}
 use Rattle.tables_bodies.specs.declared.coming.Begun.{Begun}
 

@@ -3,7 +3,7 @@ use Rattle.std.specs.Prelude.{ℕ, List, find, Option}
 use Rattle.std.specs.List.{filter_map}
 use Rattle.std.specs.Option.{option_and_then, option_map}
 use Rattle.sums.specs.declared.print.Print.{Print}
-use Rattle.keep.specs.declared.arrived.ArrivedFile.{ArrivedFile}
+use Rattle.book.specs.declared.arrived.ArrivedFile.{ArrivedFile}
 use Rattle.tables.specs.Arrivals.{is_arrival}
 use Rattle.tables.specs.Bodies.{body_with}
 use Rattle.tables.specs.Rows.{Tables}

@@ -7,8 +7,8 @@ use Rattle.sums.specs.Prints.{print as print_of, same_print}
 use Rattle.sums.specs.declared.print.Print.{Print}
 use Rattle.rules.specs.Values.{ConfigValue}
 use Rattle.suites.specs.Shelves.{ShelvesValue}
-use Rattle.texts.specs.Indices.{index_text}
-use Rattle.keep.specs.declared.change.IndexText.{IndexText}
+use Rattle.indices.specs.Indices.{index_text}
+use Rattle.book.specs.declared.change.IndexText.{IndexText}
 use Rattle.tables.specs.Rows.{tables_in}
 use Rattle.tables_meaning.specs.Shown.{shown_in}
 use Rattle.keep_tables.specs.declared.text_prints.TextPrint.{TextPrint}

@@ -4,8 +4,8 @@ use Rattle.sqlite_trees.specs.declared.store.Store.{Ghosts}
 use Rattle.sqlite.specs.Held.{Held, state}
 use Rattle.sqlite.specs.State.{State, HasCleanDisk, Survives}
 use Rattle.sqlite.specs.Tree.{Trees}
-use Rattle.keep.specs.declared.fault.KeepFault.{KeepFault}
-use Rattle.keep.specs.declared.fault.KeepFault.TheVariants.{NoArchive, OutOfMemory}
+use Rattle.book.specs.declared.fault.KeepFault.{KeepFault}
+use Rattle.book.specs.declared.fault.KeepFault.TheVariants.{NoArchive, OutOfMemory}
 use Rattle.tables.specs.Causes.{MayFail}
 use Rattle.tables.specs.Schema.{no_schema}
 use Rattle.tables_meaning.specs.Transactions.{IsUndone}

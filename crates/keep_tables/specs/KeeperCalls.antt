@@ -5,7 +5,7 @@ use Rattle.sqlite.specs.Held.{Held, state}
 use Rattle.sqlite.specs.State.{State, HasCleanDisk, Survives}
 use Rattle.sqlite.specs.Tree.{Trees}
 use Rattle.rules.specs.Values.{ConfigValue}
-use Rattle.keep.specs.Keeping.{MoreFaults}
+use Rattle.book.specs.Keeping.{MoreFaults}
 use Rattle.tables_meaning.specs.Archives.{KeepsBook, KeepsFinished}
 use Rattle.keep_tables.specs.Keepers.{config_in_use, connection_of, table_book}
 use Rattle.keep_tables.specs.Opened.{IsFinished}

@@ -3,7 +3,7 @@ use Rattle.sqlite.specs.Held.{state}
 use Rattle.sqlite.specs.State.{State}
 use Rattle.sqlite.specs.Store.{Ghosts}
 use Rattle.rules.specs.Values.{ConfigValue}
-use Rattle.keep.specs.Book.{Book}
+use Rattle.book.specs.Book.{Book}
 use Rattle.tables.specs.Rows.{tables_in}
 use Rattle.tables_meaning.specs.Archives.{book_in_database}
 use Rattle.tables_meaning.specs.Shown.{shown_in}

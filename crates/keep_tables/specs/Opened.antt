@@ -3,7 +3,7 @@ use Rattle.std.specs.Prelude.{◌≡◌, ◌≢◌, ℕ, List, [], filter, Optio
 use Rattle.sqlite.specs.Effect.{Database}
 use Rattle.sqlite.specs.State.{State, IsUnchanged}
 use Rattle.rules.specs.Values.{ConfigValue}
-use Rattle.keep.specs.declared.change.Judgement.{Judgement}
+use Rattle.book.specs.declared.change.Judgement.{Judgement}
 use Rattle.tables.specs.Rows.{Tables, Holds, IsArchive, tables_in}
 use Rattle.tables_meaning.specs.Finished.{AreUnderWay, finished, is_unfinished}
 use Rattle.tables_meaning.specs.Shown.{shown_in}

@@ -6,7 +6,7 @@ ghost use Rattle.keep_tables.specs.Arrived.{bytes_under, file_in, files_in, foun
 ghost use Rattle.tables.specs.Calls.{CommitsNoRows, Reads};
 ghost use Rattle.tables_meaning.specs.Calls.{ReadUndone};
 
-use keep::ArrivedFile;
+use book::ArrivedFile;
 use sqlite::{Alter, Connection, Error};
 use std::alloc::Global;
 use sums::Print;

@@ -4,13 +4,13 @@
 
 ghost use Rattle.std.specs.Prelude.{◌≡◌, ◌≤◌, true, false};
 ghost use Rattle.std.specs.List.{list_all};
-ghost use Rattle.keep.specs.Book.{latest};
+ghost use Rattle.book.specs.Book.{latest};
 ghost use Rattle.tables.specs.Rows.{IsArchive};
 ghost use Rattle.tables_meaning.specs.Changing.{is_within, puts_within};
 ghost use Rattle.tables_meaning.specs.Calls.{CommitsOnly, StaysOpen, Undoes, WhileOpen};
 ghost use Rattle.keep_tables.specs.ConnectionCalls.{EndsComing, HasChange, MakesChange, NothingComes, OnCommitted, SparesComing};
 
-use keep::{Change, Step};
+use book::{Change, Step};
 use rules::Config;
 use sqlite::{Alter, Connection, Error, ErrorCode};
 use std::alloc::Global;

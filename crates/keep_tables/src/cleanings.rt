@@ -1,7 +1,7 @@
 //! A cleaning, over the connection alone.
 
 ghost use Rattle.std.specs.Prelude.{◌≡◌, ◌≤◌, length, false, IfOk, OnOk};
-ghost use Rattle.keep.specs.Book.{ended, latest, span};
+ghost use Rattle.book.specs.Book.{ended, latest, span};
 ghost use Rattle.tables_meaning.specs.Archives.{book_in_database};
 ghost use Rattle.tables_meaning.specs.Calls.{CommitsOnly, StaysOpen, Undoes};
 ghost use Rattle.keep_tables.specs.ConnectionCalls.{NothingComes, OnCommitted, OverSpan, TurnsTo};

@@ -3,7 +3,7 @@
 ghost use Rattle.std.specs.Prelude.{if◌then◌else◌, ◌≡◌, [], Some, None, true, false, option_map, ◌≤◌, ◌<◌, ◌+◌, ◌%◌, ◌++◌, length, IfOk, OnOk};
 ghost use Rattle.std.specs.Option.{option_and_then, option_map_or};
 ghost use Rattle.sums.specs.Prints.{Holds, print as print_of};
-ghost use Rattle.keep.specs.Book.{latest};
+ghost use Rattle.book.specs.Book.{latest};
 ghost use Rattle.tables.specs.Rows.{tables_in};
 ghost use Rattle.tables_meaning.specs.Coming.{Comes};
 ghost use Rattle.tables_bodies.specs.AtOnce.{FitsOnePiece};
@@ -12,7 +12,7 @@ ghost use Rattle.keep_tables.specs.AtOnce.{arrives_at_once};
 ghost use Rattle.tables_meaning.specs.Calls.{BookStays, CommitsOnly, Delivers, StaysOpen, Undoes, WithComing, WithPieces};
 ghost use Rattle.keep_tables.specs.ConnectionCalls.{Arrives, NothingComes, OnCommitted, OverFile, OverFinished, SaysNew};
 
-use keep::PIECE_SIZE;
+use book::PIECE_SIZE;
 use sqlite::{Alter, Connection, Error, ErrorCode};
 use std::alloc::Global;
 use sums::Printer;

@@ -1,7 +1,7 @@
 //! Another configuration of an archive, over the connection alone.
 
 ghost use Rattle.std.specs.Prelude.{◌≡◌, ◌≤◌, All, length, false, OnOk};
-ghost use Rattle.keep.specs.Book.{latest};
+ghost use Rattle.book.specs.Book.{latest};
 ghost use Rattle.tables_meaning.specs.Calls.{CommitsOnly, StaysComing, StaysOpen, Undoes, WithBook};
 ghost use Rattle.keep_tables.specs.ConnectionCalls.{Configures, HasConfiguration, OnCommitted};
 

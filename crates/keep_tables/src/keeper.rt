@@ -29,7 +29,7 @@ use crate::reads::{
     read_print, read_text, read_waiting, show,
 };
 use crate::text_prints::{TextPrint, known_print, note_print, renew_prints};
-use keep::{
+use book::{
     ArrivedFile, Change, Configured, FilePiece, IndexText, Judgement, KeepFault, Keeper, LATEST,
     PIECE_SIZE, Waiting, append_judgements, copied_judgements, dates_after, room_for_judgements,
 };
@@ -72,7 +72,7 @@ pub struct TableKeeper<S: Alter + Drop> {
 impl<S: Alter + Drop> TableKeeper<S> {
     ghost use Rattle.std.specs.Prelude.{true, IfOk, IfErr};
     ghost use Rattle.sqlite.specs.State.{Survives};
-    ghost use Rattle.keep.specs.Plain.{fresh_book};
+    ghost use Rattle.book.specs.Book.{fresh_book};
     ghost use Rattle.tables_meaning.specs.Founding.{MayFound, founded};
 
     /// A new archive of the configuration, in a database that has no table, no index and no view, made at the moment, in seconds

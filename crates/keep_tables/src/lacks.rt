@@ -7,7 +7,7 @@ ghost use Rattle.tables_meaning.specs.Calls.{ReadUndone, ReadsAtRest};
 ghost use Rattle.tables_meaning.specs.Reads.{sorted_by};
 ghost use Rattle.keep_tables.specs.Moments.{lack_at, lacks_at, name_order, wants_by_name as wants_in_order};
 
-use keep::Lack;
+use book::Lack;
 use sqlite::{Alter, Connection, Error};
 use std::alloc::{AllocError, Global};
 use std::cmp::Ordering;

@@ -6,8 +6,8 @@ ghost use Rattle.sqlite.specs.State.{HasCleanDisk};
 ghost use Rattle.sqlite.specs.Tree.{Trees};
 ghost use Rattle.rules.specs.Configuration.{config_in};
 ghost use Rattle.rules.specs.Values.{ConfigValue};
-ghost use Rattle.keep.specs.Book.{latest, Book};
-ghost use Rattle.keep.specs.Plain.{fresh_book};
+ghost use Rattle.book.specs.Book.{latest, Book};
+ghost use Rattle.book.specs.Book.{fresh_book};
 ghost use Rattle.tables_meaning.specs.Founding.{first_dates, founded};
 ghost use Rattle.tables_meaning.specs.Kept.{IsBook, book_in};
 ghost use Rattle.tables_meaning.specs.Archives.{KeepsBook, KeepsLeft};
@@ -15,7 +15,7 @@ ghost use Rattle.keep_tables.specs.Keepers.{config_in_use, connection_of, table_
 ghost use Rattle.keep_tables.specs.declared.keeper.TableKeeper.{TableKeeper};
 
 use crate::keeper::TableKeeper;
-use keep::Keeper;
+use book::Keeper;
 use sqlite::Alter;
 
 /// The first rows are those of an archive in which nothing is yet.

@@ -3,7 +3,7 @@
 ghost use Rattle.std.specs.Prelude.{◌≡◌, ◌≢◌, None, false, IfOk, IfErr, OnErr};
 ghost use Rattle.sqlite.specs.State.{HasCleanDisk, Survives};
 ghost use Rattle.sqlite.specs.Held.{state};
-ghost use Rattle.keep.specs.declared.fault.KeepFault.TheVariants.{NoArchive};
+ghost use Rattle.book.specs.declared.fault.KeepFault.TheVariants.{NoArchive};
 ghost use Rattle.tables.specs.Causes.{IsCaused};
 ghost use Rattle.tables.specs.Rows.{Fails, Rises, Stands, tables_in};
 ghost use Rattle.tables.specs.Others.{IsArchiveSchema};
@@ -26,7 +26,7 @@ mod unfinished;
 
 use crate::keeper::TableKeeper;
 use crate::opening::unfinished::{are_named, finished_rows, unfinished_among};
-use keep::KeepFault;
+use book::KeepFault;
 use sqlite::{Alter, Connection, Error};
 use std::alloc::{AllocError, Global};
 use tables_audit::{Held, archive_in, are_under_way, is_archive_schema};

@@ -9,7 +9,7 @@ ghost use Rattle.std.specs.Prelude.{◌≡◌, filter, find, not, option_copied}
 ghost use Rattle.std.specs.Option.{option_map};
 ghost use Rattle.keep_tables.specs.AtHand.{AreRenewedAtMost, NotesAtMost, is_of_another, is_print_of, is_renewed};
 
-use keep::IndexText;
+use book::IndexText;
 use para::Text;
 use std::alloc::Global;
 use sums::Print;

@@ -5,9 +5,8 @@ ghost use Rattle.std.specs.Prelude.{◌≡◌, false, IfOk, length, filter, map,
 ghost use Rattle.std.specs.List.{filter_map};
 ghost use Rattle.sqlite.specs.State.{IsUnchanged};
 ghost use Rattle.sums.specs.Prints.{print as print_of_body};
-ghost use Rattle.records.specs.Records.{changes_in};
 ghost use Rattle.suites.specs.Upload.{IsTextOf};
-ghost use Rattle.keep.specs.Book.{judging_order};
+ghost use Rattle.book.specs.Book.{judging_order};
 ghost use Rattle.tables_meaning.specs.Reads.{next_wanting_in, wanting, row_order, sorted_by, bytes_with, text_in, upload_in};
 ghost use Rattle.tables_meaning.specs.Kept.{sign_in};
 ghost use Rattle.keep_tables.specs.Moments.{missing_at, row_at, rows_at, waiting_at, due_at};
@@ -16,9 +15,8 @@ ghost use Rattle.tables.specs.Calls.{CommitsNoRows, OverRows, Reads};
 ghost use Rattle.tables_meaning.specs.Calls.{ReadUndone, ReadsAtRest};
 
 use crate::lacks::lacks_of;
-use keep::{Waiting, judging_order};
+use book::{Waiting, judging_order};
 use para::Listed;
-use records::{Changes, RecordFault};
 use sqlite::{Alter, Connection, Error, ErrorCode};
 use std::alloc::{AllocError, Global};
 use std::cmp::Ordering;
@@ -28,7 +26,7 @@ use tables::bodies::body_with_print;
 use tables::rows::{UploadRow, Want};
 use tables::uploads::upload_numbered;
 use tables::wants::{next_wanting, wants_of};
-use tables_bodies::read_body;
+use tables_bodies::{changes_of, read_body};
 use tables_counting::{counts_still, missing_of_one};
 
 /// The first upload after a number that wants something, with its number. An upload that is not there cannot be in an
@@ -282,17 +280,6 @@ fn texts_of<S: Alter>(
     Ok(texts)
 }
 
-/// The record that a body is. A body that is no record cannot be in an archive, and is refused.
-fn read_changes(alloc: Global, body: &[u8]) -> Result<Changes, Error>
-    ensures { IfOk result (λ changes. changes_in body.now ≡ Ok changes) }
-{
-    match Changes::read(alloc, body) {
-        Ok(changes) => Ok(changes),
-        Err(RecordFault::OutOfMemory) => Err(Error::SqliteFailure(ErrorCode::OutOfMemory)),
-        Err(_) => Err(Error::SqliteFailure(ErrorCode::DatabaseCorrupt)),
-    }
-}
-
 /// An upload as it is judged: its record, and the texts of its .dsc and sidecars.
 fn read_upload<S: Alter>(
     alloc: Global,
@@ -305,7 +292,7 @@ fn read_upload<S: Alter>(
     ensures survives { CommitsNoRows S.Store conn.old conn.new }
 {
     let body = body_of(alloc, conn, &upload.print)?;
-    let changes = read_changes(alloc, &body)?;
+    let changes = changes_of(alloc, &body)?;
     let texts = texts_of(alloc, conn, changes.entries())?;
     Ok(Upload::new(upload.name, upload.print, changes, texts))
 }

@@ -3,26 +3,25 @@ use Rattle.std.proofs.Common.{◌≡◌, ◌≢◌, ℕ, ◌+◌, Bool, true, fa
 use Rattle.std.specs.Prelude.{AllPairs}
 use Rattle.std.specs.List.{AllByRecursion, cons_option, position_or_len}
 use Rattle.std.specs.Option.{option_and_then, option_map_or}
-use Rattle.std.specs.FinMap.{entries, from_entries, get-entries, get-from_entries, same_map}
+use Rattle.std.specs.FinMap.{entries, from_entries}
 use Rattle.std.proofs.lemmas.List.{length-map}
 use Rattle.std.proofs.lemmas.List.Elements.{All-weaker, recursion_from_All}
-use Rattle.std.proofs.lemmas.Option.{slice_get-map}
+use Rattle.std.proofs.lemmas.Option.{slice_get-map, slice_get_within}
 use Rattle.sqlite_keyed.proofs.ListLemmas.{test_from_all}
 use Rattle.rules.specs.Configuration.{config_in}
 use Rattle.rules.specs.Suites.{keeps_architecture, keeps_component, suite_named}
 use Rattle.rules.specs.Values.{ConfigValue}
 use Rattle.rules.specs.declared.suite.Suite.{Suite}
-use Rattle.suites.specs.KeyLemmas.{key_order_total, key_order-IsAntisymmetric}
 use Rattle.suites.specs.Moved.{all_stay, moved, moved_entry, place_in, stays_kept}
 use Rattle.suites.specs.Shelves.{ShelvesValue}
 use Rattle.suites.specs.Told.{AreTold, is_kept_by}
 use Rattle.suites.specs.declared.item.Item.{Item}
 use Rattle.suites.specs.declared.key.ShelfKey.{ShelfKey}
-use Rattle.keep.specs.Configured.{AreAlike, without_days}
-use Rattle.tables_meaning.specs.Kept.{codename_at}
-use Rattle.texts.proofs.Paths.{config_codenames}
+use Rattle.suites.specs.Codenames.{codename_at}
+use Rattle.suites.proofs.Unchanged.{entries_again}
+use Rattle.book.specs.Configured.{AreAlike, without_days}
+use Rattle.indices.proofs.Paths.{config_codenames}
 use Rattle.tables_meaning.proofs.ShownLemmas.{suite_back}
-use Rattle.tables_meaning.proofs.ConfiguredItems.{below}
 
 -- ---- what is read of suites without their days
 
@@ -54,7 +53,7 @@ module _ (suites : List Suite) (apart : AllPairs (λ s r. s.codename ≢ r.coden
   own_place : (n : ℕ) (s : Suite) → slice_get suites n ≡ Some s → suite_named suites s.codename ≡ Some n
   own_place n s e =
       let name : codename_at suites n ≡ s.codename = ap (λ o. option_map_or (λ (x : Suite). x.codename) o []) e in
-      sym (ap (suite_named suites) name) ∙ suite_back suites apart n (below suites n s e)
+      sym (ap (suite_named suites) name) ∙ suite_back suites apart n (slice_get_within suites n s e)
 
   -- an item that its suite keeps stands at the place of that suite's codename
   kept_place : (e : ShelfKey × Item) → is_kept_by suites e ≡ true → place_in suites suites e.0.suite ≡ Some e.0.suite
@@ -72,11 +71,6 @@ module _ (suites : List Suite) (apart : AllPairs (λ s r. s.codename ≢ r.coden
 all_filled : {X : Type 0} (f : X → Option X) (xs : List X) → AllByRecursion (λ x. f x ≡ Some x) xs → filter_map f xs ≡ xs
 all_filled f [] h = refl
 all_filled f (x ∷ xs) h = ap (λ o. cons_option o (filter_map f xs)) h.0 ∙ ap (λ ys. x ∷ ys) (all_filled f xs h.1)
-
-entries_back : (shown : ShelvesValue) → from_entries (entries shown) ≡ shown
-entries_back shown =
-    same_map key_order_total key_order-IsAntisymmetric (from_entries (entries shown)) shown
-    (λ key. get-from_entries key_order_total (entries shown) key ∙ sym (get-entries shown key))
 
 -- ---- alike configurations
 
@@ -119,4 +113,4 @@ module _ (config other : ConfigValue) (shown : ShelvesValue) (read : config_in c
       (all_filled move (entries shown)
       (recursion_from_All (λ e. move e ≡ Some e) (entries shown)
       (All-weaker (λ e. is_kept_by config.suites e ≡ true) (λ e. move e ≡ Some e) (λ e kept. entry_alike e kept) (entries shown) told.kept)))
-      ∙ entries_back shown
+      ∙ entries_again shown

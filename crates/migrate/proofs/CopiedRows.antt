@@ -15,10 +15,10 @@ use Rattle.sums.specs.declared.entries.Entry.{Entry}
 use Rattle.sums.proofs.Reading.{pairs_map}
 use Rattle.suites.specs.Shelves.{ShelvesValue, pool}
 use Rattle.suites.specs.declared.key.ShelfKey.{ShelfKey}
-use Rattle.keep.specs.Book.{Candidate, candidate_of, candidates, is_body_of, is_judged, is_there, latest}
-use Rattle.keep.specs.Keeping.{IsDeliverable, sign_of}
-use Rattle.keep.specs.declared.arrival.Arrival as book
-use Rattle.keep.specs.declared.change.Judgement.{Judgement}
+use Rattle.book.specs.Book.{Candidate, candidate_of, candidates, is_body_of, is_judged, is_there, latest}
+use Rattle.book.specs.Keeping.{IsDeliverable, sign_of}
+use Rattle.book.specs.declared.arrival.Arrival as book
+use Rattle.book.specs.declared.change.Judgement.{Judgement}
 use Rattle.tables.specs.Arrivals.{is_arrival}
 use Rattle.tables.specs.Files.{is_file_at}
 use Rattle.tables.specs.Rows.{Tables, first_number, rows_of}

@@ -2,7 +2,7 @@
 use Rattle.std.proofs.Common.{◌≡◌, ℕ, List, [], ◌∷◌, map, fold, ap, ◌∙◌}
 use Rattle.std.specs.FinMap.{empty}
 use Rattle.rules.specs.Values.{ConfigValue}
-use Rattle.texts.specs.Indices.{all_texts}
+use Rattle.indices.specs.Indices.{all_texts}
 use Rattle.tables.specs.Rows.{Tables, Numbered, added, first_number, no_rows, with_meta}
 use Rattle.tables.specs.declared.meta.TheConstants.{VERSION}
 use Rattle.tables.specs.declared.rows.Meta.{Meta}

@@ -4,9 +4,9 @@ use Rattle.std.proofs.Math.Logic.{∥∥₁_elim, ∥∥₁_map}
 use Rattle.sqlite.specs.Effect.{Database}
 use Rattle.rules.specs.Configuration.{config_in}
 use Rattle.rules.specs.Values.{ConfigValue}
-use Rattle.keep.specs.Book.{latest}
-use Rattle.keep.specs.Configured.{AreAlike}
-use Rattle.keep.specs.declared.change.Judgement.{Judgement}
+use Rattle.book.specs.Book.{latest}
+use Rattle.book.specs.Configured.{AreAlike}
+use Rattle.book.specs.declared.change.Judgement.{Judgement}
 use Rattle.tables.specs.Rows.{Holds, Tables, tables_in}
 use Rattle.tables.proofs.BookLemmas.{tables_set}
 use Rattle.tables_read.specs.All.{tables_with}
@@ -15,7 +15,7 @@ use Rattle.tables_meaning.specs.Coming.{HasComing}
 use Rattle.tables_meaning.specs.Kept.{IsBook}
 use Rattle.tables_meaning.specs.KeeperLemmas.{book_set}
 use Rattle.tables_meaning.specs.Shown.{shown_in}
-use Rattle.old_book.specs.declared.book.OldBook.{OldBook}
+use Rattle.old_book.specs.declared.old.OldBook.{OldBook}
 use Rattle.migrate.proofs.MovedArchive.{moved_archive_book, moved_archive_kept}
 use Rattle.migrate.specs.Migrated.{migrated_book, migrated_rows, old_config}
 use Rattle.migrate.proofs.HeldLemmas.{archive_held, book_held, none_comes}

@@ -4,9 +4,9 @@ use Rattle.rules.specs.Configuration.{config_in}
 use Rattle.rules.specs.Values.{ConfigValue}
 use Rattle.suites.specs.Moved.{all_stay, moved}
 use Rattle.suites.specs.Shelves.{ShelvesValue}
-use Rattle.keep.specs.Book.{latest}
-use Rattle.keep.specs.Configured.{AreAlike, reconfigured}
-use Rattle.keep.specs.declared.change.Judgement.{Judgement}
+use Rattle.book.specs.Book.{latest}
+use Rattle.book.specs.Configured.{AreAlike, reconfigured}
+use Rattle.book.specs.declared.change.Judgement.{Judgement}
 use Rattle.tables.specs.Rows.{Numbered, Tables, changed}
 use Rattle.tables.specs.declared.rows.Meta.{Meta}
 use Rattle.tables_meaning.specs.Configuring.{new_dates, new_texts, with_configured}

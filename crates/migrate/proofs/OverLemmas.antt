@@ -3,7 +3,7 @@ use Rattle.std.proofs.Common.{◌≡◌, ℕ, Vec, Global}
 use Rattle.sqlite.specs.Held.{Held, state}
 use Rattle.sqlite.specs.Store.{Ghosts}
 use Rattle.rules.specs.Values.{ConfigValue}
-use Rattle.keep.specs.declared.change.Judgement.{Judgement}
+use Rattle.book.specs.declared.change.Judgement.{Judgement}
 use Rattle.tables.specs.Rows.{tables_in}
 use Rattle.tables_meaning.specs.Archives.{book_in_database}
 use Rattle.tables_meaning.specs.Shown.{shown_in}

@@ -1,12 +1,12 @@
 -- What a migration makes of the book of an older layout.
 use Rattle.std.specs.Prelude.{ℕ}
 use Rattle.rules.specs.Values.{ConfigValue}
-use Rattle.keep.specs.Book.{Book}
-use Rattle.keep.specs.Configured.{AreAlike}
+use Rattle.book.specs.Book.{Book}
+use Rattle.book.specs.Configured.{AreAlike}
 use Rattle.tables.specs.Rows.{Tables}
 use Rattle.tables_read.specs.All.{tables_with}
 use Rattle.tables_meaning.specs.Kept.{book_in}
-use Rattle.old_book.specs.declared.book.OldBook.{OldBook}
+use Rattle.old_book.specs.declared.old.OldBook.{OldBook}
 use Rattle.migrate.specs.Migrating.{moved_book, moved_rows}
 
 -- the configuration that the book had

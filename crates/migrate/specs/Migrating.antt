@@ -2,8 +2,8 @@
 use Rattle.std.specs.Prelude.{ℕ, List, map}
 use Rattle.rules.specs.Values.{ConfigValue}
 use Rattle.suites.specs.Shelves.{ShelvesValue}
-use Rattle.keep.specs.Book.{Book}
-use Rattle.keep.specs.declared.arrival.Arrival.{Arrival}
+use Rattle.book.specs.Book.{Book}
+use Rattle.book.specs.declared.arrival.Arrival.{Arrival}
 use Rattle.tables.specs.Rows.{Tables}
 use Rattle.tables_meaning.specs.Configuring.{with_configured}
 use Rattle.tables_meaning.specs.Founding.{founded}

@@ -5,7 +5,7 @@
 
 ghost use Rattle.std.specs.Prelude.{◌≡◌, ◌↔◌, map, IsTrue};
 ghost use Rattle.std.specs.Option.{option_map};
-ghost use Rattle.keep.specs.Configured.{AreAlike, without_days};
+ghost use Rattle.book.specs.Configured.{AreAlike, without_days};
 
 use para::{Listed, Text};
 use rules::{Config, Rule, SourcePattern, Suite};

@@ -3,7 +3,7 @@
 ghost use Rattle.std.specs.Prelude.{◌≡◌, ◌≤◌, false, IsTrue, IfOk, IfErr};
 ghost use Rattle.sqlite.specs.State.{HasCleanDisk};
 ghost use Rattle.sqlite.specs.Held.{state};
-ghost use Rattle.keep.specs.declared.fault.KeepFault.TheVariants.{Configuration as NotAlike};
+ghost use Rattle.book.specs.declared.fault.KeepFault.TheVariants.{Configuration as NotAlike};
 ghost use Rattle.tables.specs.Schema.{no_schema};
 ghost use Rattle.tables_meaning.specs.Founding.{MayFound};
 ghost use Rattle.keep_tables.specs.Keepers.{connection_of, table_book};
@@ -13,7 +13,7 @@ ghost use Rattle.keep_tables.specs.KeeperCalls.{KeeperLeaves};
 
 use crate::alike::are_alike;
 use crate::writing::write_archive;
-use keep::{KeepFault, LATEST, copied_judgements};
+use book::{KeepFault, LATEST, copied_judgements};
 use keep_tables::TableKeeper;
 use old_book::OldBook;
 use rules::Config;

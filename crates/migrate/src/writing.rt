@@ -3,13 +3,13 @@
 ghost use Rattle.std.specs.Prelude.{◌≡◌, ◌≤◌, false, OnOk};
 ghost use Rattle.sqlite.specs.State.{Survives};
 ghost use Rattle.sqlite.specs.Held.{state};
-ghost use Rattle.keep.specs.Configured.{AreAlike};
+ghost use Rattle.book.specs.Configured.{AreAlike};
 ghost use Rattle.tables_meaning.specs.Founding.{Founds, IsFounded, MayFound};
 ghost use Rattle.migrate.specs.Migrated.{migrated_rows, old_config};
 ghost use Rattle.tables.specs.Calls.{CommitsNothing, Inside, IsSame, KeepsCommitted, OnCleanDisk};
 ghost use Rattle.tables_meaning.specs.Calls.{Undoes};
 
-use keep::LATEST;
+use book::LATEST;
 use old_book::{OldBook, write_rows};
 use rules::Config;
 use sqlite::{Alter, Connection, Error, Transaction};

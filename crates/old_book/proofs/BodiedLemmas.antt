@@ -6,13 +6,13 @@ use Rattle.std.proofs.lemmas.List.Sorted.{list_any-IsPermutation}
 use Rattle.std.proofs.lemmas.List.Sums.{list_all-from_AllPass}
 use Rattle.rules.specs.Values.{ConfigValue}
 use Rattle.suites.specs.Shelves.{ShelvesValue}
-use Rattle.keep.specs.declared.change.Judgement.{Judgement}
+use Rattle.book.specs.declared.change.Judgement.{Judgement}
 use Rattle.tables.specs.Rows.{Numbered, Tables, rows_of}
 use Rattle.tables.specs.declared.rows.ArrivalRow.{ArrivalRow}
 use Rattle.tables.specs.declared.rows.BodyRow.{BodyRow}
 use Rattle.tables.specs.declared.rows.File.{File}
 use Rattle.tables_meaning.specs.Kept.{IsBook, has_body}
-use Rattle.tables_meaning.proofs.BodyLemmas.{list_any-map}
+use Rattle.sums.proofs.Words.{list_any-map}
 use Rattle.old_book.specs.Bodied.{have_bodies}
 use Rattle.old_book.specs.Settling.{settled, with_meta_row}
 
@@ -20,7 +20,7 @@ use Rattle.old_book.specs.Settling.{settled, with_meta_row}
 among_bodies : (t : Tables) (ids rising : List ℕ) → ids ≡ map (λ x. x.0) t.bodies → IsPermutation ids rising → (id : ℕ) → list_any (λ n. nat_eq n id) rising ≡ has_body t id
 unfolding has_body
 among_bodies t ids rising is same id =
-    sym (list_any-IsPermutation (λ n. nat_eq n id) ids rising same) ∙ ap (list_any (λ n. nat_eq n id)) is ∙ list_any-map (λ n. nat_eq n id) (λ (x : ℕ × BodyRow). x.0) t.bodies
+    sym (list_any-IsPermutation (λ n. nat_eq n id) ids rising same) ∙ ap (list_any (λ n. nat_eq n id)) is ∙ list_any-map (λ (x : ℕ × BodyRow). x.0) (λ n. nat_eq n id) t.bodies
 
 with_bodies : (t : Tables) (rising : List ℕ) → ((id : ℕ) → list_any (λ n. nat_eq n id) rising ≡ has_body t id) → {X : Type 0} (body : X → ℕ) (xs : Numbered X)
     → list_all (λ x. list_any (λ n. nat_eq n (body x.1)) rising) xs ≡ list_all (λ r. has_body t (body r)) (rows_of xs)

@@ -2,7 +2,7 @@
 use Rattle.std.proofs.Common.{◌≡◌, ◌≢◌, ℕ, ◌+◌, false, List, [], ◌∷◌, map, nat_eq, All, AllPairs, None, IsTrue, refl, sym, ap, subst}
 use Rattle.std.specs.List.{enumerate_from, list_any}
 use Rattle.std.proofs.lemmas.List.Elements.{All-filter, All-map}
-use Rattle.texts.proofs.Pairs.{pairs_map, pairs_unmap}
+use Rattle.indices.proofs.Pairs.{pairs_map, pairs_unmap}
 use Rattle.tables_meaning.proofs.ArrivalLemmas.{all_unmapped}
 use Rattle.sums.proofs.Words.{list_any-map}
 use Rattle.tables.specs.Arrivals.{is_arrival}

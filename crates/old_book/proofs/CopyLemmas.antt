@@ -1,6 +1,7 @@
 -- The rows that were written one after another into tables that had none are the copied ones.
-use Rattle.std.proofs.Common.{◌≡◌, ℕ, ◌+◌, List, [], ◌∷◌, ◌++◌, map, fold, refl, sym, ap, subst, ◌∙◌, append-nil, append_assoc}
+use Rattle.std.proofs.Common.{◌≡◌, ℕ, ◌+◌, [], ◌∷◌, ◌++◌, map, fold, refl, sym, ap, subst, ◌∙◌, append-nil, append_assoc}
 use Rattle.std.specs.List.{enumerate_from}
+use Rattle.std.proofs.lemmas.List.{map-id}
 use Rattle.sqlite.specs.State.{State}
 use Rattle.tables.specs.Rows.{Tables, Numbered, Holds, Rises, added, first_number, next_from, next_in, rows_of}
 use Rattle.old_book.specs.Copying.{AreRising, Copies, IsBare, anew, arrived_at, copied}
@@ -73,12 +74,8 @@ adds_behind {X} {Y} f (x ∷ rows) front =
 adds_anew : {X Y : Type 0} (f : X → Y) (rows : Numbered X) (now : Numbered Y) → now ≡ [] → adds f rows now ≡ anew (map f (rows_of rows))
 adds_anew f rows now none = ap (adds f rows) none ∙ adds_behind f rows []
 
-same_rows : {X : Type 0} (rows : List X) → map (λ x. x) rows ≡ rows
-same_rows [] = refl
-same_rows (x ∷ rows) = ap (λ l. x ∷ l) (same_rows rows)
-
 adds_rows : {X : Type 0} (rows now : Numbered X) → now ≡ [] → adds (λ x. x) rows now ≡ anew (rows_of rows)
-adds_rows rows now none = adds_anew (λ x. x) rows now none ∙ ap anew (same_rows (rows_of rows))
+adds_rows rows now none = adds_anew (λ x. x) rows now none ∙ ap anew (map-id (rows_of rows))
 
 puts_rows : {X : Type 0} (rows now : Numbered X) → now ≡ [] → Rises rows → puts rows now ≡ rows
 puts_rows rows now none up = ap (puts rows) none ∙ puts_all rows up

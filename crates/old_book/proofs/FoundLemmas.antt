@@ -4,15 +4,15 @@ use Rattle.std.specs.Prelude.{Contains}
 use Rattle.std.proofs.lemmas.List.Elements.{All-from_recursion}
 use Rattle.sqlite.specs.Effect.{Database}
 use Rattle.sqlite.specs.declared.error.Error.{Error}
-use Rattle.keep.specs.Keeping.{MayAnswer}
-use Rattle.keep.specs.declared.fault.KeepFault.{KeepFault}
-use Rattle.keep.specs.declared.fault.KeepFault.TheVariants.{NoArchive}
+use Rattle.book.specs.Keeping.{MayAnswer}
+use Rattle.book.specs.declared.fault.KeepFault.{KeepFault}
+use Rattle.book.specs.declared.fault.KeepFault.TheVariants.{NoArchive}
 use Rattle.tables.specs.Rows.{Tables}
 use Rattle.tables_meaning.specs.Kept.{AreReadable}
 use Rattle.old_rows.specs.Layouts.{AreShown, Asked, first_layout, older_layouts, second_layout}
 use Rattle.old_book.specs.Books.{IsBookOf, IsOldBookIn, IsShownBook}
 use Rattle.old_book.specs.Old.{IsNoOldArchive, KeepsNoOld, KeepsNoneAs}
-use Rattle.old_book.specs.declared.book.OldBook.{OldBook}
+use Rattle.old_book.specs.declared.old.OldBook.{OldBook}
 
 -- ---- of rows that are shown
 

@@ -1,7 +1,7 @@
 -- Numbers that rise, as a test row by row says it.
-use Rattle.std.proofs.Common.{◌≡◌, ◌<◌, ℕ, Bool, true, [], ◌∷◌, ◌&&◌, None, Some, refl, arith}
+use Rattle.std.proofs.Common.{◌≡◌, ◌<◌, ℕ, true, [], ◌∷◌, None, Some, refl, arith}
 use Rattle.std.specs.List.{AllByRecursion}
-use Rattle.std.proofs.lemmas.Bool.{and_parts, lt-ltb, ltb-true}
+use Rattle.std.proofs.lemmas.Bool.{and_parts, lt-ltb, ltb-true, and_from}
 use Rattle.sqlite_keyed.proofs.ListLemmas.{all_weaker}
 use Rattle.tables.specs.Rows.{Numbered, Rises, Tables}
 use Rattle.old_book.specs.Rising.{is_rising, rise_behind}
@@ -28,10 +28,6 @@ module _ {X : Type 0} where
   if_rise [] up = refl
   if_rise (x ∷ xs) up = above_rise x.0 xs up.0 up.1
 
--- both tests hold
-both : (a b : Bool) → a ≡ true → b ≡ true → (a && b) ≡ true
-both a b is other = rw is other
-
 pub rising_if : (t : Tables) → is_rising t ≡ true → AreRising t
 rising_if t is =
     let last = and_parts _ _ is in
@@ -39,4 +35,4 @@ rising_if t is =
     record { bodies = rise_if t.bodies first.0; uploads = rise_if t.uploads first.1; items = rise_if t.items last.1 }
 
 pub if_rising : (t : Tables) → AreRising t → is_rising t ≡ true
-if_rising t up = both _ _ (both _ _ (if_rise t.bodies up.bodies) (if_rise t.uploads up.uploads)) (if_rise t.items up.items)
+if_rising t up = and_from _ _ (and_from _ _ (if_rise t.bodies up.bodies) (if_rise t.uploads up.uploads)) (if_rise t.items up.items)

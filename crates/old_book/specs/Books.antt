@@ -6,7 +6,7 @@ use Rattle.tables_read.specs.All.{tables_with}
 use Rattle.old_rows.specs.Layouts.{AreShown, Asked}
 use Rattle.old_book.specs.Old.{IsOldArchive, IsOldBook}
 use Rattle.old_book.specs.Settling.{settled, with_meta_row}
-use Rattle.old_book.specs.declared.book.OldBook.{OldBook}
+use Rattle.old_book.specs.declared.old.OldBook.{OldBook}
 
 -- The rows are those of the old archive, and the book has them as those of an archive of today.
 pub record IsBookOf (t : Tables) (old : OldBook) : Type 0 where

@@ -1,11 +1,8 @@
 -- Whether numbers rise, row by row.
-use Rattle.std.specs.Prelude.{ℕ, nat_lt, Bool, true, ◌&&◌, [], ◌∷◌, Option, None, Some}
+use Rattle.std.specs.Prelude.{ℕ, Bool, true, ◌&&◌, [], ◌∷◌, Option, None, Some}
 use Rattle.tables.specs.Rows.{Numbered, Tables}
-
--- the number is above the last, if there is one
-abbrev pub is_above : Option ℕ → ℕ → Bool
-is_above None id = true
-is_above (Some last) id = nat_lt last id
+-- `is_above`: the number is above the last, if there is one.
+pub use Rattle.tables.specs.Wants.{is_behind as is_above}
 
 -- the numbers rise, above the last before them
 abbrev pub rise_behind : {X : Type 0} → Option ℕ → Numbered X → Bool

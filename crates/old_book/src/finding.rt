@@ -13,12 +13,12 @@ ghost use Rattle.old_book.specs.Books.{IsBookOf, IsOldBookIn, IsShownBook};
 ghost use Rattle.tables.specs.Calls.{NeverCommits, OnCleanDisk};
 
 use crate::bodied::have_bodies;
-use crate::book::OldBook;
 use crate::listed::are_listed;
+use crate::old::OldBook;
 use crate::renewed::{renewed, text_among};
 use crate::rising::is_rising;
 use crate::taken::are_taken;
-use keep::KeepFault;
+use book::KeepFault;
 use old_rows::{Asked, first, old_rows, second};
 use sqlite::{Alter, Connection, Error};
 use std::alloc::{AllocError, Global};
@@ -100,7 +100,7 @@ fn book_in<S: Alter>(alloc: Global, from: &mut Connection<S>) -> Result<Option<O
 
 impl OldBook {
     ghost use Rattle.std.specs.Prelude.{◌⊎◌, true, IfErr};
-    ghost use Rattle.keep.specs.declared.fault.KeepFault.TheVariants.{NoArchive};
+    ghost use Rattle.book.specs.declared.fault.KeepFault.TheVariants.{NoArchive};
     ghost use Rattle.tables.specs.Rows.{Stands, Tables};
     ghost use Rattle.old_book.specs.Old.{IsOldBook};
     ghost use Rattle.old_book.specs.Settling.{settled, with_meta_row};

@@ -7,12 +7,12 @@
 
 mod bodied;
 mod bodies;
-mod book;
 mod finding;
 mod items;
 mod listed;
 mod number;
 mod numbers;
+mod old;
 mod renewed;
 mod rising;
 mod rows;
@@ -22,5 +22,5 @@ mod uploads;
 mod without_days;
 mod written;
 
-pub use book::OldBook;
+pub use old::OldBook;
 pub use rows::write_rows;

@@ -3,8 +3,8 @@ use Rattle.std.proofs.Common.{◌≤◌, ℕ, ◌<◌, Bool, List, map, All, IsT
 use Rattle.std.specs.Prelude.{◌↔◌}
 use Rattle.std.proofs.lemmas.List.{get_or-map, length-map}
 use Rattle.std.proofs.lemmas.List.Elements.{All-map}
-use Rattle.keep.specs.Book.{latest}
-use Rattle.keep.specs.Keeping.{IsDeliverable}
+use Rattle.book.specs.Book.{latest}
+use Rattle.book.specs.Keeping.{IsDeliverable}
 use Rattle.tables.specs.Rows.{Tables, rows_of}
 use Rattle.tables.specs.declared.rows.ArrivalRow.{ArrivalRow}
 use Rattle.tables_meaning.specs.Kept.{arrival_in, arrivals_in}

@@ -9,7 +9,6 @@ use Rattle.std.specs.FinMap as keyed
 use Rattle.std.proofs.lemmas.List.{map-append, take_more}
 use Rattle.std.proofs.lemmas.List.Elements.{All-append, All-cons, All-nil}
 use Rattle.std.proofs.lemmas.List.Folds.{list_any-append}
-use Rattle.std.proofs.lemmas.Option.{same_Some}
 use Rattle.std.proofs.lemmas.Slice.Eq.{bytes_eq-Decides}
 use Rattle.std.specs.BTreeMap.{BTreeMap, get_by_text, is_at}
 use Rattle.std.specs.Map.{lookup}
@@ -17,6 +16,7 @@ use Rattle.std.specs.String.{string_bytes}
 use Rattle.std.specs.Ordering.{eq_by_cmp}
 use Rattle.std.specs.Cmp.{eq_by_cmp_equiv}
 use Rattle.std.proofs.lemmas.Bool.{and_from, and_parts, both_ways}
+use Rattle.std.proofs.Math.Bool.{or-true, or-false}
 use Rattle.sums.proofs.Members.{all_at, all_from, any_true, by_name, contains_map, find_one, from_map, here, no_member, there, which}
 use Rattle.suites.proofs.EntryLemmas.{same_keys}
 use Rattle.sums.specs.declared.print.Print.{Print}
@@ -32,31 +32,8 @@ use Rattle.tables.specs.declared.rows.BodyRow.{BodyRow}
 use Rattle.tables.specs.declared.rows.File.{File}
 use Rattle.tables_read.specs.All.{AreConstrained}
 use Rattle.tables_meaning.specs.Kept.{AreFiles, has_body, print_at}
+use Rattle.book.proofs.Finds.{found_passes, found_in, is_some_of_find}
 use Rattle.tables_audit.specs.Files.{AreThose, HasPrint, is_path}
-
-found_passes : {X : Type 0} (p : X → Bool) (xs : List X) (x : X) → find p xs ≡ Some x → p x ≡ true
-found_passes p [] x e = cc
-found_passes p (y ∷ ys) x e = go (p y) refl (found_passes p ys x) e
-  where
-    go : (b : Bool) → p y ≡ b → (find p ys ≡ Some x → p x ≡ true) → cond b (Some y) (find p ys) ≡ Some x → p x ≡ true
-    go true t more f = subst (λ z. p z ≡ true) (same_Some y x f) t
-    go false t more f = more f
-
-found_inside : {X : Type 0} (p : X → Bool) (xs : List X) (x : X) → find p xs ≡ Some x → Contains xs x
-found_inside p [] x e = cc
-found_inside p (y ∷ ys) x e = go (p y) (found_inside p ys x) e
-  where
-    go : (b : Bool) → (find p ys ≡ Some x → Contains ys x) → cond b (Some y) (find p ys) ≡ Some x → Contains (y ∷ ys) x
-    go true more f = subst (Contains (y ∷ ys)) (same_Some y x f) (here y ys)
-    go false more f = there y x ys (more f)
-
-any_found : {X : Type 0} (p : X → Bool) (xs : List X) → find p xs ≡ None → list_any p xs ≡ false
-any_found p [] e = refl
-any_found p (x ∷ xs) e = go (p x) (any_found p xs) e
-  where
-    go : (b : Bool) → (find p xs ≡ None → list_any p xs ≡ false) → cond b (Some x) (find p xs) ≡ None → b || list_any p xs ≡ false
-    go true more f = cc
-    go false more f = more f
 
 path_is : (f : File) (path : List ℕ) → is_file_at path f ≡ true → f.path ≡ path
 path_is f path e = (bytes_eq-Decides f.path path).0 e
@@ -73,10 +50,10 @@ module _ (t : Tables) (shown : ShelvesValue) (keys : AreConstrained t) where
       none None e = refl
       none (Some p) e =
           let here_in : is_path t.files path ≡ true = those.there path (λ n. let clash : Some p ≡ None = sym e ∙ n in cc) in
-          let absent : is_path t.files path ≡ false = any_found (is_file_at path) (rows_of t.files) found in
+          let absent : is_path t.files path ≡ false = sym (is_some_of_find (is_file_at path) (rows_of t.files)) ∙ ap is_some found in
           cc
   from_rows those path (Some f) found =
-      let row = from_map (λ x. x.1) f t.files (found_inside (is_file_at path) (rows_of t.files) f found) in
+      let row = from_map (λ x. x.1) f t.files (found_in (is_file_at path) (rows_of t.files) f found) in
       let print : print_at t row.0.1.body ≡ get (pool shown) row.0.1.path = all_at (HasPrint (pool shown) t.bodies) t.files row.0 those.prints row.1 in
       ap (λ (g : File). print_at t g.body) (sym row.2)
       ∙ print
@@ -91,7 +68,7 @@ module _ (t : Tables) (shown : ShelvesValue) (keys : AreConstrained t) where
 
   at_path : AreFiles t shown → (path : List ℕ) (f : Option File) → find (is_file_at path) (rows_of t.files) ≡ f → get (pool shown) path ≢ None → is_path t.files path ≡ true
   at_path files path None found some = absurd (some (sym (files.are path) ∙ ap there_at found))
-  at_path files path (Some f) found some = any_true (is_file_at path) (rows_of t.files) f (found_inside (is_file_at path) (rows_of t.files) f found) (found_passes (is_file_at path) (rows_of t.files) f found)
+  at_path files path (Some f) found some = any_true (is_file_at path) (rows_of t.files) f (found_in (is_file_at path) (rows_of t.files) f found) (found_passes (is_file_at path) (rows_of t.files) f found)
 
   -- The rows are those of the pool's files exactly if each has the pool's print and each path has its row.
   pub files_fit : AreThose (pool shown) t.bodies t.files ↔ AreFiles t shown
@@ -197,17 +174,9 @@ one_path files f old new was put path =
     ∙ go (bytes_eq f.1.path path) refl
     ∙ sym (ap (list_any (is_file_at path)) (map-append (λ x. x.1) files (f ∷ [])) ∙ list_any-append (is_file_at path) (rows_of files) (f.1 ∷ []))
   where
-    right_true : (b : Bool) → b || true ≡ true
-    right_true true = refl
-    right_true false = refl
-
-    right_false : (b : Bool) → b ≡ b || false
-    right_false true = refl
-    right_false false = refl
-
     go : (b : Bool) → bytes_eq f.1.path path ≡ b → is_some (cond b (Some f.1.body) (get_by_text old path)) ≡ is_path files path || list_any (is_file_at path) (f.1 ∷ [])
-    go true t = rw t (sym (right_true (is_path files path)))
-    go false t = was path ∙ rw t (right_false (is_path files path))
+    go true t = rw t (sym (or-true (is_path files path)))
+    go false t = was path ∙ rw t (sym (or-false (is_path files path)))
 
 -- one more path of these
 pub path_more : (files : Numbered File) (n : ℕ) (d : ℕ × File) (old new : Paths) → n < length files → ((path : List ℕ) → is_some (get_by_text old path) ≡ is_path (take n files) path)

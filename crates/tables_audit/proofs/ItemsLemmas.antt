@@ -29,24 +29,25 @@ use Rattle.suites.specs.declared.key.ShelfKey.{ShelfKey}
 use Rattle.suites.proofs.EntryLemmas.{same_keys}
 use Rattle.suites.proofs.FileMembers.{files_contain, item_of_file, shown_value, value_shown}
 use Rattle.suites.proofs.PoolLookups.{find-Contains}
+use Rattle.suites.specs.Codenames.{codename_at}
+use Rattle.suites.proofs.ListTests.{option_or_none}
 use Rattle.tables.specs.Items.{is_item}
 use Rattle.tables.specs.Refs.{is_ref_of}
 use Rattle.tables.specs.Rows.{Numbered, Tables, rows_of}
 use Rattle.tables.specs.declared.rows.ItemRow.{ItemRow}
 use Rattle.tables.specs.declared.rows.Ref.{Ref}
 use Rattle.tables_read.specs.All.{AreConstrained}
-use Rattle.tables_meaning.specs.Kept.{AreItems, AreReadable, IsReadable, codename_at, is_on, ref_order, refs_among, refs_for, refs_in, shown_row}
+use Rattle.tables_meaning.specs.Kept.{AreItems, AreReadable, IsReadable, is_on, ref_order, refs_among, refs_for, refs_in, shown_row, ref_for}
 use Rattle.tables_meaning.specs.Kept as kept
 use Rattle.tables_meaning.specs.Shown.{clash, entry_in, file_in, is_taken, item_with, may_not_join, shown_in}
 use Rattle.tables_meaning.proofs.NumberOrders.{ref_order_total}
-use Rattle.tables_meaning.proofs.ShownLemmas.{entry_on, find_beyond, find_shown, item_from, item_parts, on_entry, shown_is}
+use Rattle.tables_meaning.proofs.ShownLemmas.{entry_on, find_beyond, find_shown, item_parts, on_entry, shown_is}
+use Rattle.tables_meaning.proofs.RealItems.{both_on}
+use Rattle.book.proofs.Prints.{same_print-Decides}
+use Rattle.book.proofs.Finds.{found_passes, found_in}
 use Rattle.tables_audit.specs.Items.{AreShown, AreStopped, IsShown, Joins, MayJoin, are_numbered_from, entry_at}
 
 -- ---- files and their numbers
-
--- the row of a file of this item
-abbrev ref_for : ℕ → ℕ × PoolFile → Ref
-ref_for id f = record { item = id; number = f.0; path = f.1.path; print = f.1.print }
 
 -- the files of an item have its number
 own_rows : (id : ℕ) (refs : List Ref) → AllByRecursion (λ r. r.item ≡ id) (filter (is_ref_of id) refs)
@@ -130,10 +131,6 @@ found_append f key (x ∷ xs) ys = step (f x) (found_append f key xs ys)
           | false ↦ more
         ]
 
-or_none : {X : Type 0} (o : Option X) → o ≡ option_or o None
-or_none None = refl
-or_none (Some x) = refl
-
 -- at first no row is read
 pub none_shown : (suites : List Suite) (refs : Numbered Ref) (shelves : ShelvesValue) → shelves ≡ empty → AreShown suites refs [] shelves
 none_shown suites refs shelves none = record {
@@ -163,7 +160,7 @@ one_shown suites refs items x old new shown joins = record {
     go key true tied =
         ap (λ o. option_or o (Some joins.puts.entry.1))
         (sym (sym (shown.stands key) ∙ ap (get old) (same_keys key_order-IsAntisymmetric key joins.puts.entry.0 tied) ∙ joins.puts.put.free))
-    go key false apart = shown.stands key ∙ or_none (keyed.find key_order key (filter_map (entry_at suites refs) items))
+    go key false apart = shown.stands key ∙ sym (option_or_none (keyed.find key_order key (filter_map (entry_at suites refs) items)))
 
 -- one more row of these
 pub shown_more : (suites : List Suite) (refs : Numbered Ref) (items : Numbered ItemRow) (n : ℕ) (d : ℕ × ItemRow) (old new : ShelvesValue) → n < length items → AreShown suites refs (take n items) old
@@ -185,22 +182,6 @@ stopped_at suites refs items n d shelves lt shown refused = record {
 }
 
 -- ---- rows that were all shown
-
-found_passes : {X : Type 0} (p : X → Bool) (xs : List X) (x : X) → find p xs ≡ Some x → p x ≡ true
-found_passes p [] x e = cc
-found_passes p (y ∷ ys) x e = go (p y) refl (found_passes p ys x) e
-  where
-    go : (b : Bool) → p y ≡ b → (find p ys ≡ Some x → p x ≡ true) → cond b (Some y) (find p ys) ≡ Some x → p x ≡ true
-    go true t more f = subst (λ z. p z ≡ true) (same_Some y x f) t
-    go false t more f = more f
-
-found_inside : {X : Type 0} (p : X → Bool) (xs : List X) (x : X) → find p xs ≡ Some x → Contains xs x
-found_inside p [] x e = cc
-found_inside p (y ∷ ys) x e = go (p y) (found_inside p ys x) e
-  where
-    go : (b : Bool) → (find p ys ≡ Some x → Contains ys x) → cond b (Some y) (find p ys) ≡ Some x → Contains (y ∷ ys) x
-    go true more f = subst (Contains (y ∷ ys)) (same_Some y x f) (here y ys)
-    go false more f = there y x ys (more f)
 
 -- a row that is on a shelf is the row of the item that it shows there
 row_back : (suites : List Suite) (t : Tables) (key : ShelfKey) (x : ℕ × ItemRow) → is_on suites key x ≡ true → are_numbered_from 1 (refs_in t x.0) ≡ true
@@ -232,7 +213,7 @@ module _ (suites : List Suite) (differ : AllPairs (λ s r. s.codename ≢ r.code
       → option_map (kept.shown_in t) f ≡ option_and_then (λ x. option_map (shown_row suites key x.0) (get shelves key)) f
   row_there key None found stands = refl
   row_there key (Some x) found stands =
-      let shown = all_at (IsShown suites t.refs) t.items x h.each (found_inside (is_on suites key) t.items x found) in
+      let shown = all_at (IsShown suites t.refs) t.items x h.each (found_in (is_on suites key) t.items x found) in
       ap Some (row_back suites t key x (found_passes (is_on suites key) t.items x found) shown.numbered)
       ∙ ap (option_map (shown_row suites key x.0)) (sym stands)
 
@@ -290,37 +271,13 @@ found_there : {X : Type 0} (p : X → Bool) (before : List X) (x : X) (behind : 
 found_there p [] x behind h e = rw e refl
 found_there p (y ∷ before) x behind h e = rw h.0 (found_there p before x behind h.1 e)
 
--- two rows on one shelf are of one item
-same_item : (suites : List Suite) (key : ShelfKey) (y x : ℕ × ItemRow) → is_on suites key y ≡ true → is_on suites key x ≡ true → is_item y.1.suite y.1.kind y.1.«package» y.1.architecture x.1 ≡ true
-same_item suites key y x one other =
-    let p = item_parts (codename_at suites key.suite) (kind_number key.kind) key.«package» key.architecture y.1 one in
-    let q = item_parts (codename_at suites key.suite) (kind_number key.kind) key.«package» key.architecture x.1 other in
-    item_from y.1.suite y.1.kind y.1.«package» y.1.architecture x.1 (record {
-      at_suite = q.at_suite ∙ sym p.at_suite;
-      at_kind = q.at_kind ∙ sym p.at_kind;
-      at_name = q.at_name ∙ sym p.at_name;
-      at_architecture = q.at_architecture ∙ sym p.at_architecture;
-    })
-
 not_before : (suites : List Suite) (key : ShelfKey) (x : ℕ × ItemRow) (before : Numbered ItemRow) → is_on suites key x ≡ true
     → AllByRecursion (λ y. is_item y.1.suite y.1.kind y.1.«package» y.1.architecture x.1 ≡ false) before → AllByRecursion (λ y. is_on suites key y ≡ false) before
 not_before suites key x [] on apart = tt
 not_before suites key x (y ∷ before) on apart = (
-  false_from_ne_true (is_on suites key y) (λ also. both_ways (is_item y.1.suite y.1.kind y.1.«package» y.1.architecture x.1) apart.0 (same_item suites key y x also on)),
+  false_from_ne_true (is_on suites key y) (λ also. both_ways (is_item y.1.suite y.1.kind y.1.«package» y.1.architecture x.1) apart.0 (both_on suites key y x also on)),
   not_before suites key x before on apart.1,
 )
-
-same_of_equal : (a b : Print) → a ≡ b → same_print a b ≡ true
-same_of_equal a b e = subst (λ p. same_print a p ≡ true) e (same_itself a)
-  where
-    same_bytes : (xs : List ℕ) → bytes_eq xs xs ≡ true
-    same_bytes xs = (bytes_eq-Decides xs xs).1 refl
-
-    same_itself : (p : Print) → same_print p p ≡ true
-    same_itself p =
-        and_from (nat_eq p.size p.size && bytes_eq p.md5 p.md5 && bytes_eq p.sha1 p.sha1) (bytes_eq p.sha256 p.sha256)
-        (and_from (nat_eq p.size p.size && bytes_eq p.md5 p.md5) (bytes_eq p.sha1 p.sha1)
-        (and_from (nat_eq p.size p.size) (bytes_eq p.md5 p.md5) (eq-eqb p.size p.size refl) (same_bytes p.md5)) (same_bytes p.sha1)) (same_bytes p.sha256)
 
 -- an item of sound shelves fits beside others of these
 module _ (shown so_far : ShelvesValue) (sound : AreSound shown) (part : (key : ShelfKey) (item : shelf.Item) → get so_far key ≡ Some item → get shown key ≡ Some item)
@@ -342,7 +299,7 @@ module _ (shown so_far : ShelvesValue) (sound : AreSound shown) (part : (key : S
       go None e = refl
       go (Some p) e =
           let there = part_shown f.path p (find-Contains f.path (files_of (values so_far)) p (sym (get-from_entries text_order_total (files_of (values so_far)) f.path) ∙ e)) in
-          ap not (same_of_equal p f.print (sound.agreed f.path p f.print there (file_shown f inside)))
+          ap not ((same_print-Decides p f.print).1 (sound.agreed f.path p f.print there (file_shown f inside)))
 
   no_clash : (f g : PoolFile) → Contains item.files f → Contains item.files g → clash f g ≡ false
   unfolding clash
@@ -352,7 +309,7 @@ module _ (shown so_far : ShelvesValue) (sound : AreSound shown) (part : (key : S
       go false e = refl
       go true e =
           let path : f.path ≡ g.path = (bytes_eq-Decides f.path g.path).0 e in
-          ap not (same_of_equal f.print g.print (sound.agreed f.path f.print g.print (file_shown f one) (subst (λ p. Contains (files_of (values shown)) (p, g.print)) (sym path) (file_shown g other))))
+          ap not ((same_print-Decides f.print g.print).1 (sound.agreed f.path f.print g.print (file_shown f one) (subst (λ p. Contains (files_of (values shown)) (p, g.print)) (sym path) (file_shown g other))))
 
   pub may_fit : list_any (may_not_join (pool so_far) item.files) item.files ≡ false
   unfolding may_not_join

@@ -4,7 +4,7 @@ use Rattle.std.specs.List.Sorted.{IsPermutation, IsStableByKey}
 use Rattle.std.specs.Option.{option_and_then, option_map_or, option_or}
 use Rattle.std.specs.Ordering.{is_lt, nat_cmp}
 use Rattle.std.proofs.lemmas.Bool.{eqb-true}
-use Rattle.std.proofs.lemmas.List.{append-nil, map-append}
+use Rattle.std.proofs.lemmas.List.{append-nil, map-append, nil_from_length}
 use Rattle.std.proofs.lemmas.List.Elements.{filter_agree, filter_passes}
 use Rattle.std.proofs.lemmas.List.Folds.{find-append}
 use Rattle.std.proofs.lemmas.List.Sorted.{length_permutation}
@@ -66,10 +66,6 @@ placed_more uploads i x placed within is pushed so_far place =
 
 -- ---- the uploads in the order of their places
 
-nothing : {X : Type 0} (xs : List X) → length xs ≡ 0 → xs ≡ []
-nothing [] e = refl
-nothing (x ∷ xs) e = absurd (omega arith)
-
 -- the first at a place depends on those at the place alone
 pub first_same : (place : ℕ) (xs ys : List Placed) → filter (λ (p : Placed). nat_eq p.place place) xs ≡ filter (λ (p : Placed). nat_eq p.place place) ys
     → first_at (map placed_view xs) place ≡ first_at (map placed_view ys) place
@@ -85,7 +81,7 @@ module _ (old new : List Placed) (same : IsPermutation old new) (stable : IsStab
       go : (l : List Placed) → filter (λ (p : Placed). nat_eq p.place place) old ≡ l → filter (λ (p : Placed). nat_eq p.place place) new ≡ filter (λ (p : Placed). nat_eq p.place place) old
       go [] none =
           let at : Placed → Bool = λ p. nat_eq p.place place in
-          nothing (filter at new) (length_permutation (filter at old) (filter at new) (IsPermutation-filter at old new same) ∙ ap length none) ∙ sym none
+          nil_from_length (filter at new) (length_permutation (filter at old) (filter at new) (IsPermutation-filter at old new same) ∙ ap length none) ∙ sym none
       go (x ∷ l) some =
           let at : Placed → Bool = λ p. nat_eq p.place place in
           let tie : Placed → Bool = λ y. not (is_lt (nat_cmp x.place y.place)) && not (is_lt (nat_cmp y.place x.place)) in

@@ -5,7 +5,6 @@ use Rattle.std.specs.declared.cmp.Ordering.{Ordering}
 use Rattle.std.specs.declared.cmp.Ordering.TheVariants.{Less, Equal, Greater}
 use Rattle.std.specs.Cmp.{IsStrictWeakOrder, IsTotalOrder, tied_itself}
 use Rattle.std.specs.Fn.{Called, ComparesAs}
-use Rattle.std.specs.List.{list_any}
 use Rattle.std.specs.List.Sorted.{IsBinarySearchResult, IsPermutation, IsSearchInRange, IsSortedBy, IsSortedByKey}
 use Rattle.std.specs.Ordering.{is_eq, is_lt}
 use Rattle.std.proofs.lemmas.Bool.{ltb-false, ltb-true}
@@ -14,12 +13,13 @@ use Rattle.std.proofs.lemmas.List.{map-append, map_more}
 use Rattle.std.proofs.lemmas.List.Sorted.{IsPermutation-map, list_any-IsPermutation, ranks_by, searchable_from_sorted}
 use denote.Param.Members.{Mut}
 use denote.Ref.{Bor}
-use Rattle.keep.specs.declared.change.Judgement.{Judgement}
-use Rattle.keep.specs.Book.{judging_order}
+use Rattle.book.specs.declared.change.Judgement.{Judgement}
+use Rattle.book.specs.Book.{judging_order}
 use Rattle.tables_meaning.proofs.SignOrder.{judging_order_total, judging_order-IsAntisymmetric}
 use Rattle.tables_meaning.proofs.WantLemmas.{is_sign-Decides}
 use Rattle.sums.specs.declared.entries.Entry.{Entry}
 use Rattle.sums.specs.Prints.{same_print}
+use Rattle.sums.proofs.Words.{list_any-map}
 use Rattle.tables_audit.specs.Signs.{AreInOrder, SignValue, arrived_sign, entry_sign, has_sign, judgement_sign, sign_of}
 use Rattle.tables_audit.specs.Uploads.{Printed, has_judgement, is_there_among, printed}
 use Rattle.tables_audit.specs.declared.uploads.arrived.Arrived.{Arrived}
@@ -98,14 +98,10 @@ signs_more f signs xs i x one within is same pushed so_far =
 
 -- ---- what is judged, and what is there
 
-any-map : {X Y : Type 0} (p : Y → Bool) (f : X → Y) (xs : List X) → list_any p (map f xs) ≡ list_any (λ x. p (f x)) xs
-any-map p f [] = refl
-any-map p f (x ∷ xs) = ap (λ b. p (f x) || b) (any-map p f xs)
-
 pub judged_same : (judged : List Judgement) (p : Printed) → has_sign (map judgement_sign judged) (p.0.name, p.1) ≡ has_judgement judged p
-judged_same judged p = any-map (λ (r : SignValue). bytes_eq r.0 p.0.name && same_print r.1 p.1) judgement_sign judged
+judged_same judged p = list_any-map judgement_sign (λ (r : SignValue). bytes_eq r.0 p.0.name && same_print r.1 p.1) judged
 
 pub there_same : (arrived : List Arrived) (e : Entry) → has_sign (map arrived_sign arrived) (entry_sign e) ≡ is_there_among (map printed arrived) e
 there_same arrived e =
-    any-map (λ (r : SignValue). bytes_eq r.0 e.name && same_print r.1 e.print) arrived_sign arrived
-    ∙ sym (any-map (λ (p : Printed). bytes_eq p.0.name e.name && same_print p.1 e.print) printed arrived)
+    list_any-map arrived_sign (λ (r : SignValue). bytes_eq r.0 e.name && same_print r.1 e.print) arrived
+    ∙ sym (list_any-map printed (λ (p : Printed). bytes_eq p.0.name e.name && same_print p.1 e.print) arrived)

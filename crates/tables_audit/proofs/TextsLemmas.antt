@@ -15,10 +15,10 @@ use Rattle.sums.proofs.Members.{all_from}
 use Rattle.tables.proofs.Pairwise.{ascending_from_pairs}
 use Rattle.tables.specs.Rows.{Numbered, rows_of}
 use Rattle.tables.specs.declared.rows.TextRow.{TextRow}
-use Rattle.texts.proofs.Apart.{PathsDiffer}
-use Rattle.texts.specs.Indices.{PathText, folder_texts, suite_texts, texts_from}
-use Rattle.texts.specs.Positions.{release_at}
-use Rattle.texts.specs.Release.{index_of, indices_of, listed_texts, release_text}
+use Rattle.indices.proofs.Apart.{PathsDiffer}
+use Rattle.indices.specs.Indices.{PathText, folder_texts, suite_texts, texts_from}
+use Rattle.indices.specs.Positions.{release_at}
+use Rattle.indices.specs.Release.{index_of, indices_of, listed_texts, release_text}
 use Rattle.tables_meaning.specs.Founding.{from_root, suite_texts_at}
 use Rattle.tables_meaning.proofs.Orders.{contained_permutes}
 use Rattle.tables_matching.specs.Rows.{text_in}

@@ -1,5 +1,5 @@
 -- The pieces of a body that is not whole, one after another.
-use Rattle.std.proofs.Common.{◌≡◌, ℕ, ◌+◌, ◌-◌, ◌*◌, ◌%◌, ◌<◌, ◌≤◌, min, Bool, true, false, nat_eq, List, [], ◌∷◌, ◌++◌, drop, length, get_or, All, Option, None, Some, is_some, IsTrue, inl, inr, refl, sym, ap, ap₂, ◌∙◌, arith, true≢false}
+use Rattle.std.proofs.Common.{◌≡◌, ℕ, ◌+◌, ◌-◌, ◌*◌, ◌%◌, ◌<◌, ◌≤◌, min, Bool, true, false, nat_eq, List, [], ◌∷◌, ◌++◌, drop, length, get_or, All, IsTrue, inl, inr, refl, sym, ap, ap₂, ◌∙◌, arith, true≢false}
 use Rattle.std.specs.Prelude.{◌↔◌}
 use Rattle.std.proofs.lemmas.Bool.{cases_lt, eq-eqb, eqb-true}
 use Rattle.std.proofs.lemmas.List.{get_or_append_left, length-append, length-drop, length-take}
@@ -108,11 +108,6 @@ module _ (id count : ℕ) (full : Bool) (bytes : List ℕ) (ps rest : List Piece
         some = omega (arith, size, below);
         small = omega (arith, size);
       }
-
--- an option that is not Some is None
-pub none_if_not : {X : Type 0} (o : Option X) → is_some o ≡ false → o ≡ None
-none_if_not None e = refl
-none_if_not (Some x) e = absurd (true≢false e)
 
 -- the test of each body is that of all
 pub all_under_way : (t : Tables) (fit : Bool) → (IsTrue fit ↔ All (IsInPieces t) t.bodies) → (IsTrue fit ↔ AreUnderWay t)

@@ -10,12 +10,14 @@ use Rattle.std.proofs.lemmas.Option.{slice_get-get_or, slice_get_past, slice_get
 use Rattle.rules.proofs.VerdictNumbers.{known, number_is}
 use Rattle.rules.specs.Verdicts.{verdict_numbered}
 use Rattle.rules.specs.declared.verdict.Verdict.{Verdict}
-use Rattle.keep.specs.declared.change.Judgement.{Judgement}
+use Rattle.book.specs.declared.change.Judgement.{Judgement}
+use Rattle.book.proofs.Finds.{found_passes}
 use Rattle.tables.specs.Rows.{Numbered, rows_of}
 use Rattle.tables.specs.declared.rows.UploadRow.{UploadRow}
 use Rattle.tables_meaning.specs.Kept.{is_placed, judged_row}
+use Rattle.tables_meaning.proofs.RowLists.{none_passes}
 use Rattle.tables_audit.specs.Uploads.{judged_at, judgement_in, last_of, later}
-use Rattle.tables_audit.proofs.UploadsLists.{found_passes, from_slices, none_among, none_passes, same_somes, slice_get-map, slice_get-range}
+use Rattle.tables_audit.proofs.UploadsLists.{from_slices, none_among, same_somes, slice_get-map, slice_get-range}
 
 -- ---- a row and its judgement
 

@@ -1,5 +1,5 @@
 -- Lists of rows that are gone over one by one.
-use Rattle.std.proofs.Common.{◌≡◌, ◌↔◌, ℕ, zero, suc, ◌+◌, ◌<◌, ◌≤◌, Bool, true, false, cond, nat_eq, Option, Some, None, option_map, slice_get, List, [], ◌∷◌, ◌++◌, map, filter, find, drop, take, length, get_or, All, Contains, refl, sym, ap, ap₂, subst, ◌∙◌, arith, MatchBool, true≢false}
+use Rattle.std.proofs.Common.{◌≡◌, ◌↔◌, ℕ, zero, suc, ◌+◌, ◌<◌, ◌≤◌, Bool, true, false, cond, nat_eq, Option, Some, None, option_map, slice_get, List, [], ◌∷◌, ◌++◌, map, filter, drop, take, length, get_or, All, Contains, refl, sym, ap, ap₂, subst, ◌∙◌, arith, MatchBool, true≢false}
 use Rattle.std.specs.List.{AllByRecursion, range_with_len}
 use Rattle.std.proofs.lemmas.Bool.Decides.{Decides-eqb}
 use Rattle.std.proofs.lemmas.List.{drop_all, drop_more, get_or-map, length-append, length-drop, length-map, map-append, map_more, take-append-drop, take_all, take_more}
@@ -118,28 +118,3 @@ pairs_differ f g xs ys apart e = apart (sym (length-map xs f) ∙ ap length e �
 
 pub pairs_all : {X Y Z : Type 0} (f : X → Z) (g : Y → Z) (xs : List X) (ys : List Y) (n : ℕ) → length xs ≤ n → length xs ≡ length ys → map f (take n xs) ≡ map g (take n ys) → map f xs ≡ map g ys
 pairs_all f g xs ys n all same e = ap (map f) (sym (take_all n xs all)) ∙ e ∙ ap (map g) (take_all n ys (omega (arith, all, same)))
-
-module _ {X : Type 0} (p : X → Bool) where
-  pub found_passes : (xs : List X) (x : X) → find p xs ≡ Some x → p x ≡ true
-  found_passes [] x e = cc
-  found_passes (y ∷ ys) x e = go (p y) refl e (found_passes ys x)
-    where
-      go : (b : Bool) → p y ≡ b → cond b (Some y) (find p ys) ≡ Some x → (find p ys ≡ Some x → p x ≡ true) → p x ≡ true
-      go true t f more = let k : y ≡ x = cc in subst (λ z. p z ≡ true) k t
-      go false t f more = more f
-
-  pub found_holds : (P : X → Type 0) (xs : List X) (x : X) → AllByRecursion P xs → find p xs ≡ Some x → P x
-  found_holds P [] x all e = cc
-  found_holds P (y ∷ ys) x all e = go (p y) e (found_holds P ys x all.1)
-    where
-      go : (b : Bool) → cond b (Some y) (find p ys) ≡ Some x → (find p ys ≡ Some x → P x) → P x
-      go true f more = let k : y ≡ x = cc in subst P k all.0
-      go false f more = more f
-
-  pub none_passes : (xs : List X) → find p xs ≡ None → AllByRecursion (λ x. p x ≡ false) xs
-  none_passes [] e = tt
-  none_passes (y ∷ ys) e = go (p y) refl e (none_passes ys)
-    where
-      go : (b : Bool) → p y ≡ b → cond b (Some y) (find p ys) ≡ None → (find p ys ≡ None → AllByRecursion (λ x. p x ≡ false) ys) → AllByRecursion (λ x. p x ≡ false) (y ∷ ys)
-      go true t f more = cc
-      go false t f more = (t, more f)

@@ -1,9 +1,9 @@
 -- Requests in the order of judging: lists of them that have the same elements, in some order.
-use Rattle.std.proofs.Common.{◌≡◌, Bool, true, false, not, List, [], ◌∷◌, map, filter, length, MatchBool, IsPermutation, refl, sym, ap, ◌∙◌, arith}
+use Rattle.std.proofs.Common.{◌≡◌, Bool, true, false, not, List, [], map, filter, length, MatchBool, IsPermutation, sym, ap, ◌∙◌, arith}
 use Rattle.std.specs.Cmp.{IsTotalOrder}
 use Rattle.std.specs.Ordering.{is_eq}
 use Rattle.std.proofs.lemmas.Cmp.{on_total}
-use Rattle.std.proofs.lemmas.List.{length-map}
+use Rattle.std.proofs.lemmas.List.{length-map, nil_from_length}
 use Rattle.std.proofs.lemmas.List.Sorted.{IsPermutation-sym, IsPermutation-trans, length_permutation}
 use Rattle.sqlite_trees.specs.Tree.{IsAscending}
 use Rattle.sqlite_keyed.specs.Lists.{sort_by as sorted_by}
@@ -42,10 +42,6 @@ pub requests_apart : (uploads : Numbered UploadRow) (wants : Numbered Want) → 
 requests_apart uploads wants apart =
     ascending-map (λ (r s : Request). is_eq (request_order r s) ≡ false) (request_row wants) (filter (λ x. not (has_place x.1)) uploads) (signs_apart uploads apart)
 
-pub nothing : {X : Type 0} (xs : List X) → length xs ≡ 0 → xs ≡ []
-nothing [] e = refl
-nothing (x ∷ xs) e = absurd (omega arith)
-
 -- if no upload waits, no row is without a place
 pub none_asked : (b : Bool) (uploads : Numbered UploadRow) (wants : Numbered Want) (arrived : List Arrived) (awaited : List Awaited) → awaited ≡ []
     → MatchBool b (filter (λ x. not (has_place x.1)) uploads ≡ []) (filter (λ x. not (has_place x.1)) uploads ≡ [] → ⊥)
@@ -56,4 +52,4 @@ none_asked false uploads wants arrived awaited none some = λ same.
     let left = filter (λ x. not (has_place x.1)) uploads in
     let many : length (map (request_among (map printed arrived)) (map awaited_view awaited)) ≡ length (map (request_row wants) left) = length_permutation _ _ same in
     let nil : length (map (request_among (map printed arrived)) (map awaited_view awaited)) ≡ 0 = ap (λ (l : List Awaited). length (map (request_among (map printed arrived)) (map awaited_view l))) none in
-    some (nothing left (omega (arith, many, nil, length-map left (request_row wants))))
+    some (nil_from_length left (omega (arith, many, nil, length-map left (request_row wants))))

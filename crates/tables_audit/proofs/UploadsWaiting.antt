@@ -12,9 +12,10 @@ use Rattle.records.specs.Values.{ChangesValue}
 use Rattle.sums.specs.Prints.{print as print_of}
 use Rattle.sums.specs.declared.entries.Entry.{Entry}
 use Rattle.sums.specs.declared.print.Print.{Print}
-use Rattle.keep.specs.Book.{Candidate, candidate_of, candidates, is_body_of, is_judged, is_there}
+use Rattle.book.specs.Book.{Candidate, candidate_of, candidates, is_body_of, is_judged, is_there}
 use Rattle.sums.specs.FileNames.{is_changes_name}
-use Rattle.keep.specs.declared.change.Judgement.{Judgement}
+use Rattle.sums.proofs.Words.{list_any-map}
+use Rattle.book.specs.declared.change.Judgement.{Judgement}
 use Rattle.tables.specs.Rows.{Numbered, Tables, rows_of}
 use Rattle.tables.specs.Uploads.{is_judged as has_place}
 use Rattle.tables.specs.declared.rows.ArrivalRow.{ArrivalRow}
@@ -88,15 +89,11 @@ none_unprinted t keys fit has =
 
 -- ---- what is there
 
-any-map : {X Y : Type 0} (p : Y → Bool) (f : X → Y) (xs : List X) → list_any p (map f xs) ≡ list_any (λ x. p (f x)) xs
-any-map p f [] = refl
-any-map p f (x ∷ xs) = ap (λ b. p (f x) || b) (any-map p f xs)
-
 there_same : (t : Tables) (e : Entry) → is_there_among (arrivals_printed t) e ≡ is_there (arrivals_in t) e
 unfolding is_there is_body_of arrivals_in
 there_same t e =
-    any-map (is_listed_as e) (λ (a : ArrivalRow). (a, print_in t a.body)) (rows_of t.arrivals)
-    ∙ sym (any-map (is_body_of e) (arrival_in t) (rows_of t.arrivals))
+    list_any-map (λ (a : ArrivalRow). (a, print_in t a.body)) (is_listed_as e) (rows_of t.arrivals)
+    ∙ sym (list_any-map (arrival_in t) (is_body_of e) (rows_of t.arrivals))
 
 -- ---- what waits
 

@@ -6,9 +6,9 @@ use Rattle.rules.specs.Values.{ConfigValue}
 use Rattle.suites.specs.Told.{AreTold}
 use Rattle.suites.specs.Shelves.{AreSound, ShelvesValue}
 use Rattle.std.proofs.lemmas.List.Sorted.{IsPermutation-sym, IsPermutation-trans}
-use Rattle.texts.specs.Indices.{all_texts}
-use Rattle.texts.proofs.Paths.{config_codenames}
-use Rattle.keep.specs.declared.change.Judgement.{Judgement}
+use Rattle.indices.specs.Indices.{all_texts}
+use Rattle.indices.proofs.Paths.{config_codenames}
+use Rattle.book.specs.declared.change.Judgement.{Judgement}
 use Rattle.tables.specs.Rows.{Tables, rows_of}
 use Rattle.tables.specs.declared.rows.Meta.{Meta}
 use Rattle.tables.specs.declared.meta.TheConstants.{VERSION}

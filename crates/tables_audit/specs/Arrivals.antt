@@ -1,7 +1,7 @@
 -- What makes one arrival fit.
 use Rattle.std.specs.Prelude.{◌≤◌}
-use Rattle.keep.specs.Book.{latest}
-use Rattle.keep.specs.Keeping.{IsDeliverable}
+use Rattle.book.specs.Book.{latest}
+use Rattle.book.specs.Keeping.{IsDeliverable}
 use Rattle.tables.specs.Rows.{Tables}
 use Rattle.tables.specs.declared.rows.ArrivalRow.{ArrivalRow}
 use Rattle.tables_meaning.specs.Kept.{bytes_of}

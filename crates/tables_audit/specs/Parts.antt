@@ -2,9 +2,9 @@
 use Rattle.std.specs.Prelude.{◌≡◌, ◌≢◌, ◌≤◌, ℕ, ◌+◌, not, nat_eq, ◌&&◌, All, List, map, filter, find, None, Some, slice_get, option_map, IsTrue, IsPermutation}
 use Rattle.std.specs.List.{list_any}
 use Rattle.sums.specs.Prints.{print as print_of}
-use Rattle.keep.specs.Book.{candidates, is_judged, latest}
-use Rattle.keep.specs.Keeping.{IsDeliverable}
-use Rattle.keep.specs.declared.change.Judgement.{Judgement}
+use Rattle.book.specs.Book.{candidates, is_judged, latest}
+use Rattle.book.specs.Keeping.{IsDeliverable}
+use Rattle.book.specs.declared.change.Judgement.{Judgement}
 use Rattle.tables.specs.Rows.{Tables, rows_of}
 use Rattle.tables.specs.Uploads.{is_judged as has_place}
 use Rattle.tables_meaning.specs.Kept.{arrivals_in, bytes_of, is_placed, is_used, judged_row, pieces_for, pieces_of, request_in, request_of}

@@ -3,7 +3,7 @@ use Rattle.std.specs.Prelude.{List, map}
 use Rattle.tables.specs.Rows.{Numbered, rows_of}
 use Rattle.tables.specs.declared.rows.TextRow.{TextRow}
 use Rattle.tables_matching.specs.Rows.{text_in}
-use Rattle.texts.specs.Indices.{PathText}
+use Rattle.indices.specs.Indices.{PathText}
 
 -- the paths and the texts of rows with their rowids
 abbrev pub texts_in : Numbered TextRow → List PathText

@@ -3,7 +3,6 @@ use Rattle.std.specs.Prelude.{◌≡◌, ◌≢◌, ℕ, nat_eq, nat_lt, Bool, �
 use Rattle.std.specs.List.{AllPairs, list_any, flat_map}
 use Rattle.std.specs.declared.cmp.Ordering.{Ordering}
 use Rattle.sqlite_keyed.specs.Lists.{sort_by as sorted_by}
-use Rattle.suites.specs.Keys.{text_order}
 use Rattle.std.specs.Option.{option_and_then}
 use Rattle.std.specs.Result.{result_ok}
 use Rattle.records.specs.Records.{changes_in}
@@ -12,9 +11,9 @@ use Rattle.rules.specs.Verdicts.{verdict_numbered}
 use Rattle.sums.specs.declared.entries.Entry.{Entry}
 use Rattle.sums.specs.declared.print.Print.{Print}
 use Rattle.sums.specs.Prints.{same_print}
-use Rattle.keep.specs.Book.{candidates, is_judged, judging_order}
+use Rattle.book.specs.Book.{candidates, is_judged, judging_order}
 use Rattle.sums.specs.FileNames.{is_changes_name}
-use Rattle.keep.specs.declared.change.Judgement.{Judgement}
+use Rattle.book.specs.declared.change.Judgement.{Judgement}
 use Rattle.tables.specs.Rows.{Numbered, Tables, rows_of}
 use Rattle.tables.specs.Uploads.{is_judged as has_place}
 use Rattle.tables.specs.Wants.{is_wanted_by}
@@ -127,10 +126,6 @@ request_order r s = judging_order r.0 s.0
 
 abbrev pub waiting_order : Waiting → Waiting → Ordering
 waiting_order v w = judging_order (v.0.0.name, v.0.1) (w.0.0.name, w.0.1)
-
--- the order of listed files: by name
-abbrev pub entry_order : Entry → Entry → Ordering
-entry_order d e = text_order d.name e.name
 
 -- The rows without a place are those of the .changes that wait, in some order, with what they want.
 abbrev pub AreAsked : Numbered UploadRow → Numbered Want → List Arrived → List Awaited → Type 0

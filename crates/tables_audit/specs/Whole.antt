@@ -3,9 +3,9 @@ use Rattle.std.specs.Prelude.{◌≡◌, ◌≤◌, ℕ, List, All, length, map,
 use Rattle.rules.specs.Values.{ConfigValue}
 use Rattle.suites.specs.Shelves.{ShelvesValue, AreSound}
 use Rattle.suites.specs.Told.{AreTold}
-use Rattle.texts.specs.Indices.{all_texts}
-use Rattle.keep.specs.declared.change.Judgement.{Judgement}
-use Rattle.keep.specs.Book.{latest}
+use Rattle.indices.specs.Indices.{all_texts}
+use Rattle.book.specs.declared.change.Judgement.{Judgement}
+use Rattle.book.specs.Book.{latest}
 use Rattle.tables.specs.Rows.{Tables, rows_of}
 use Rattle.tables_meaning.specs.Kept.{AreFiles, AreItems, AreSigned, IsBook, date_row}
 use Rattle.tables_audit.specs.Parts.{UploadsFit}

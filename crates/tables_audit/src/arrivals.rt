@@ -3,7 +3,7 @@
 ghost use Rattle.std.specs.Prelude.{◌≡◌, ◌↔◌, ◌≤◌, All, true, Ok, IsTrue, IfOk, length};
 ghost use Rattle.sums.specs.FileNames.{is_changes_name};
 ghost use Rattle.sums.specs.Lines.{greatest_size};
-ghost use Rattle.keep.specs.Keeping.{IsDeliverable};
+ghost use Rattle.book.specs.Keeping.{IsDeliverable};
 ghost use Rattle.records.specs.Records.{changes_in};
 ghost use Rattle.records.specs.Values.{ChangesValue};
 ghost use Rattle.tables_read.specs.All.{tables_with};
@@ -13,7 +13,7 @@ ghost use Rattle.tables_audit.specs.Parts.{ArrivalsFit};
 
 use crate::bodies::{bytes_of, size_of};
 use crate::pieces::Pieces;
-use keep::LATEST;
+use book::LATEST;
 use records::{Changes, RecordFault};
 use std::alloc::{AllocError, Global};
 use sums::{GREATEST_SIZE, is_changes_name, is_file_name};

@@ -11,7 +11,7 @@ ghost use Rattle.tables_audit.specs.Bodies.{ArePieces, AreUsed, IsBodyFit, IsNex
 ghost use Rattle.tables_audit.specs.Parts.{BodiesFit};
 
 use crate::pieces::Pieces;
-use keep::PIECE_SIZE;
+use book::PIECE_SIZE;
 use std::alloc::{AllocError, Global};
 use sums::{Print, Printer};
 use tables::rows::{ArrivalRow, BodyRow, File, Piece};

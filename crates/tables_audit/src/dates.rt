@@ -1,12 +1,12 @@
 //! The dates of the suites, read from the rows of `dates`.
 
 ghost use Rattle.std.specs.Prelude.{◌≡◌, ◌≢◌, ◌≤◌, ◌↔◌, ℕ, List, All, AllPairs, Contains, None, length, map, zip, IsPermutation, IsTrue, IfOk, IfSome};
-ghost use Rattle.keep.specs.Book.{latest};
+ghost use Rattle.book.specs.Book.{latest};
 ghost use Rattle.tables_meaning.specs.Kept.{date_row};
 ghost use Rattle.tables.specs.Rows.{rows_of};
 ghost use Rattle.tables_read.specs.All.{tables_with};
 
-use keep::LATEST;
+use book::LATEST;
 use rules::{Config, Suite};
 use std::alloc::{AllocError, Global};
 use tables::rows::Date;

@@ -12,8 +12,8 @@ ghost use Rattle.tables_audit.specs.Bodies.{AreByBody};
 
 use crate::keyed;
 use std::alloc::{AllocError, Global};
-use std::cmp::Ordering;
 use tables::rows::Piece;
+use tables_meaning::piece_order;
 use tables_read::AllRows;
 
 /// Whether the pieces stand by body, in rising order of the bodies' numbers.
@@ -29,13 +29,6 @@ fn part_of(pieces: &[(u64, Piece)], id: u64) -> &[(u64, Piece)]
     ensures { filter (is_of id) (rows_of result.now) ≡ filter (is_of id) (rows_of pieces.now) }
 {
     keyed::part_of(pieces, id)
-}
-
-/// The order of the pieces of a body: by number.
-fn piece_order(a: &Piece, b: &Piece) -> Ordering
-    ensures { result ≡ piece_order a.now b.now }
-{
-    a.number.cmp(&b.number)
 }
 
 /// Pieces in their order.

@@ -7,7 +7,7 @@ ghost use Rattle.std.specs.Prelude.{◌≡◌, ◌↔◌, IsTrue, length};
 ghost use Rattle.tables.specs.Real.{IsRealPrint};
 ghost use Rattle.tables_meaning.specs.Kept.{AreSigned, IsSigned};
 
-use keep::Judgement;
+use book::Judgement;
 use records::MOST_CHANGES;
 use sums::{Print, is_changes_name, is_file_name};
 

@@ -6,17 +6,18 @@ ghost use Rattle.tables_matching.specs.Rows.{text_in};
 ghost use Rattle.tables_audit.specs.TextRows.{texts_in};
 ghost use Rattle.tables.specs.Rows.{rows_of};
 ghost use Rattle.tables_read.specs.All.{tables_with};
-ghost use Rattle.texts.specs.Indices.{all_texts};
-ghost use Rattle.texts.specs.Places.{place_entry};
-ghost use Rattle.texts.specs.Positions.{release_at};
-ghost use Rattle.texts.specs.Release.{index_of, listed_texts};
+ghost use Rattle.indices.specs.Indices.{all_texts};
+ghost use Rattle.indices.specs.Places.{place_entry};
+ghost use Rattle.indices.specs.Positions.{release_at};
+ghost use Rattle.indices.specs.Release.{index_of, listed_texts};
+ghost use Rattle.sums.specs.Prints.{print as print_of_text};
 
-use keep::LATEST;
+use book::LATEST;
 use para::{Listed, Text};
 use rules::{Config, Suite};
 use std::alloc::{AllocError, Global};
 use suites::Shelves;
-use sums::print_of;
+use sums::{Print, print_of};
 use tables::rows::TextRow;
 use tables_matching::is_text_row;
 use tables_read::AllRows;
@@ -73,23 +74,54 @@ fn listed_entries(
     placed_entries(alloc, shelves, position, places.as_slice())
 }
 
-/// What Release lists of an index.
-fn index_of(entry: &TextRow) -> Result<Index, AllocError>
+/// A text whose print is known.
+#[derive(Clone, Copy)]
+struct Printed<'t> {
+    text: &'t [u8],
+    print: Print,
+    ghost is: { print ≡ print_of_text text.now },
+}
+
+/// The text with its print. It is the print of the text before, if both are the same: an index of packages for all architectures is
+/// the same text for each of them.
+fn printed_after<'t>(before: Option<Printed<'t>>, text: &'t [u8]) -> Printed<'t>
+    ensures { result.text.now ≡ text.now }
+{
+    if let Some(printed) = before {
+        if printed.text == text {
+            return Printed {
+                text,
+                print: printed.print,
+            };
+        }
+    }
+    Printed {
+        text,
+        print: print_of(text),
+    }
+}
+
+/// What Release lists of an index whose text has this print.
+fn index_of(entry: &TextRow, print: Print) -> Result<Index, AllocError>
+    requires { print ≡ print_of_text entry.now.body }
     ensures { IfOk result (λ index. index ≡ index_of (text_in entry.now)) }
 {
     Ok(Index {
         path: entry.path.try_clone()?,
-        print: print_of(entry.body.as_slice()),
+        print,
     })
 }
 
-/// What Release lists of indices.
+/// What Release lists of indices. Of texts that are the same, one after the other, the first alone is hashed.
 fn indices_of(alloc: Global, entries: &[TextRow]) -> Result<Vec<Index>, AllocError>
     ensures { IfOk result (λ indices. indices.items ≡ map index_of (map text_in entries.now)) }
 {
     let mut indices = Vec::new(alloc);
+    let mut before = None;
     for entry in entries {
-        indices.push(index_of(entry)?)?;
+        let printed = printed_after(before, entry.body.as_slice());
+        indices.push(index_of(entry, printed.print)?)?;
+        before = Some(printed);
     }
     Ok(indices)
 }

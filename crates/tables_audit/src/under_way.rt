@@ -10,7 +10,7 @@ ghost use Rattle.tables_meaning.specs.Finished.{AreUnderWay};
 ghost use Rattle.tables_audit.specs.Bodies.{AreInPieces, IsBehind, IsInPieces};
 
 use crate::pieces::Pieces;
-use keep::PIECE_SIZE;
+use book::PIECE_SIZE;
 use std::alloc::{AllocError, Global};
 use tables::rows::{BodyRow, Piece};
 use tables_read::AllRows;

@@ -9,7 +9,7 @@ mod signs;
 mod wanted;
 
 ghost use Rattle.std.specs.Prelude.{◌≡◌, None, IfOk, IfSome, List, MatchBool};
-ghost use Rattle.keep.specs.declared.change.Judgement.{Judgement as JudgementValue};
+ghost use Rattle.book.specs.declared.change.Judgement.{Judgement as JudgementValue};
 ghost use Rattle.tables_read.specs.All.{AreConstrained, tables_with};
 ghost use Rattle.tables_audit.specs.Parts.{BodiesFit, UploadsFit};
 ghost use Rattle.tables_audit.specs.Uploads.{AreApart, AreAsked, AreBesides};
@@ -18,8 +18,8 @@ use crate::keyed::Rows;
 use crate::pieces::Pieces;
 use arrived::{Arrived, arrived_among};
 use awaited::{Awaited, awaited_among};
+use book::Judgement;
 use judged::{are_placed, judged_until, last_place};
-use keep::Judgement;
 use lookups::{There, Verdicts};
 use std::alloc::{AllocError, Global};
 use tables_read::AllRows;

@@ -2,8 +2,8 @@
 
 ghost use Rattle.std.specs.Prelude.{◌≡◌, ◌≤◌, ◌↔◌, ℕ, List, All, None, length, IsTrue, IfOk, IfSome};
 ghost use Rattle.suites.specs.Shelves.{ShelvesValue};
-ghost use Rattle.texts.specs.Calendar.{latest};
-ghost use Rattle.keep.specs.declared.change.Judgement.{Judgement as JudgementValue};
+ghost use Rattle.indices.specs.Calendar.{latest};
+ghost use Rattle.book.specs.declared.change.Judgement.{Judgement as JudgementValue};
 ghost use Rattle.tables_read.specs.All.{AreConstrained, tables_with};
 ghost use Rattle.tables_meaning.specs.Kept.{AreReadable, IsBook};
 ghost use Rattle.tables_audit.specs.Parts.{ArrivalsFit, BodiesFit};
@@ -19,7 +19,7 @@ use crate::meta::config_in;
 use crate::signed::are_signed;
 use crate::text_rows::are_texts_of;
 use crate::uploads::judgements_in;
-use keep::{Judgement, LATEST};
+use book::{Judgement, LATEST};
 use rules::Config;
 use std::alloc::{AllocError, Global};
 use suites::Shelves;

@@ -5,30 +5,31 @@ use Rattle.std.proofs.Math.Logic.{∥∥₁_elim}
 use Rattle.std.proofs.Props.{props}
 use Rattle.std.specs.List.{AllByRecursion, enumerate_from, list_all, list_any}
 use Rattle.std.specs.Option.{option_map_or}
-use Rattle.std.proofs.lemmas.Bool.{and_parts, both_ways, eq-eqb, eqb-true, or_cases, or_left, or_parts}
+use Rattle.std.proofs.lemmas.Bool.{and_parts, both_ways, eq-eqb, eqb-true, or_cases, or_left}
 use Rattle.std.proofs.lemmas.List.{drop_more}
 use Rattle.std.proofs.lemmas.List.Elements.{recursion_from_All}
 use Rattle.std.proofs.lemmas.List.Folds.{list_any-append}
 use Rattle.std.proofs.lemmas.Slice.Eq.{bytes_eq-Decides}
-use Rattle.sqlite_keyed.proofs.ListLemmas.{all_of, all_weaker, any_from_none, filter_all}
+use Rattle.sqlite_keyed.proofs.ListLemmas.{all_of, all_weaker, any_from_none, filter_all, none_from_any}
 use Rattle.sqlite.specs.Effect.{Database}
 use Rattle.sqlite.specs.State.{State, HasCleanDisk, IsUnchanged, Survives}
 use Rattle.sqlite.proofs.StateLemmas.{survives_then}
 use Rattle.rules.specs.Values.{ConfigValue}
 use Rattle.rules.specs.declared.suite.Suite.{Suite}
-use Rattle.sums.proofs.Members.{all_true, any_some, by_name}
+use Rattle.sums.proofs.Members.{all_true, any_some, by_name, any_true}
+use Rattle.sums.proofs.Words.{list_any-map}
 use Rattle.suites.specs.Shelves.{ShelvesValue}
 use Rattle.suites.specs.declared.item.Item as shelf
 use Rattle.suites.specs.declared.item.PoolFile.{PoolFile}
 use Rattle.suites.specs.declared.key.ShelfKey.{ShelfKey}
 use Rattle.suites.specs.declared.plan.Plan.{Plan}
-use Rattle.texts.specs.Stanzas.{file_name}
-use Rattle.keep.proofs.Finds.{is_some_of_find}
-use Rattle.keep.specs.Scan.{some_touches}
-use Rattle.keep.specs.declared.change.Change.{Change}
-use Rattle.keep.specs.declared.change.IndexText.{IndexText}
-use Rattle.keep.specs.declared.change.Judgement.{Judgement}
-use Rattle.keep.specs.declared.change.Step.{Step}
+use Rattle.indices.specs.Stanzas.{file_name}
+use Rattle.book.proofs.Finds.{is_some_of_find}
+use Rattle.book.specs.Scan.{some_touches}
+use Rattle.book.specs.declared.change.Change.{Change}
+use Rattle.book.specs.declared.change.IndexText.{IndexText}
+use Rattle.book.specs.declared.change.Judgement.{Judgement}
+use Rattle.book.specs.declared.change.Step.{Step}
 use Rattle.tables.specs.Arrivals.{is_arrival}
 use Rattle.tables.specs.Bodies.{body_with}
 use Rattle.tables.specs.Dates.{with_new_date}
@@ -52,7 +53,7 @@ use Rattle.tables_meaning.specs.Making.{judged_by, takes_file, with_change, with
 use Rattle.tables_meaning.specs.Reads.{Rests}
 use Rattle.tables_meaning.specs.Sweeping.{swept}
 use Rattle.tables_meaning.specs.Transactions.{IsUndone}
-use Rattle.tables_meaning.proofs.BodyLemmas.{any_with, arrival_has, arrived_used, file_has, filed_used, found, list_any-map, none_found, rows_added, used_by}
+use Rattle.tables_meaning.proofs.BodyLemmas.{arrival_has, arrived_used, file_has, filed_used, found, none_found, rows_added, used_by}
 use Rattle.tables_meaning.proofs.JudgedLemmas.{judged_others}
 use Rattle.tables_meaning.proofs.PassingLemmas.{bodies_left, passes_written}
 use Rattle.tables_meaning.proofs.ReadCalls.{database_set}
@@ -71,10 +72,6 @@ module _ {X : Type 0} (p : X → Bool) (xs : List X) (i : ℕ) (x : X) (within :
 
   pub all_fails : (b : Bool) → b ≡ p x → b ≡ false → false ≡ list_all p xs
   all_fails b is fails = ap (λ c. c && list_all p (drop (i + 1) xs)) (sym fails) ∙ with_next b is
-
-none_pass : {X : Type 0} (p : X → Bool) (xs : List X) → list_any p xs ≡ false → AllByRecursion (λ x. p x ≡ false) xs
-none_pass p [] none = tt
-none_pass p (x ∷ xs) none = let parts = or_parts (p x) (list_any p xs) none in (parts.0, none_pass p xs parts.1)
 
 -- ---- what a change leaves of arrivals and files
 
@@ -180,8 +177,8 @@ module _ (path : List ℕ) (id : ℕ) where
 
   stands_without : (arrivals : Numbered ArrivalRow) (files : Numbered File) (other : List ℕ) → bytes_eq other path ≡ false → Stands arrivals files → Stands arrivals (without (λ x. is_file_at other x.1) files)
   stands_without arrivals files other apart h =
-      list_any-map is_it (λ x. x.1) (without (λ x. is_file_at other x.1) files)
-      ∙ any_kept (λ x. is_it x.1) (λ x. is_file_at other x.1) files (λ x. other_path other apart x.1) (sym (list_any-map is_it (λ x. x.1) files) ∙ h)
+      list_any-map (λ x. x.1) is_it (without (λ x. is_file_at other x.1) files)
+      ∙ any_kept (λ x. is_it x.1) (λ x. is_file_at other x.1) files (λ x. other_path other apart x.1) (sym (list_any-map (λ x. x.1) is_it files) ∙ h)
 
 -- the step takes the file at this path away
 abbrev takes_path : List ℕ → Step → Bool
@@ -207,20 +204,20 @@ module _ (config : ConfigValue) (judged : ℕ) (change : Change) (t : Tables) (a
   filed_still x there none =
       let may : AllByRecursion (λ s. AllByRecursion (λ f. bytes_eq f.path x.path ≡ false) s.plan.files_removed) change.steps =
       all_weaker (λ s. takes_path x.path s ≡ false) (λ s. AllByRecursion (λ f. bytes_eq f.path x.path ≡ false) s.plan.files_removed)
-      (λ s none. none_pass (λ f. bytes_eq f.path x.path) s.plan.files_removed none) change.steps (none_pass (takes_path x.path) change.steps none) in
+      (λ s none. none_from_any (λ f. bytes_eq f.path x.path) s.plan.files_removed none) change.steps (none_from_any (takes_path x.path) change.steps none) in
       let itself : is_it x.path x.body x ≡ true = ap₂ ◌&&◌ ((bytes_eq-Decides x.path x.path).1 refl) (eq-eqb x.body x.body refl) in
       let stands : list_any (is_it x.path x.body) (rows_of made.files) ≡ true =
       stays_written (Stands x.path x.body) (λ path. bytes_eq path x.path ≡ false) (stands_beside x.path x.body) (stands_without x.path x.body) config judged change may t
-      (any_with (is_it x.path x.body) (rows_of t.files) x there itself) in
+      (any_true (is_it x.path x.body) (rows_of t.files) x there itself) in
       let row = any_some (is_it x.path x.body) (rows_of made.files) stands in
-      filed_used made x.body (any_with (λ f. nat_eq f.body x.body) (rows_of made.files) row.0 row.1 (and_parts (bytes_eq row.0.path x.path) (nat_eq row.0.body x.body) row.2).1)
+      filed_used made x.body (any_true (λ f. nat_eq f.body x.body) (rows_of made.files) row.0 row.1 (and_parts (bytes_eq row.0.path x.path) (nat_eq row.0.body x.body) row.2).1)
 
   -- the arrival that is found is one of this body
   arrival_found : (path : List ℕ) (id : ℕ) → has_arrived_under t path id ≡ true → arrival_has t id ≡ true
   arrival_found path id e =
       let a = any_some (λ x. is_arrival (file_name path) id x.1) t.arrivals (sym (is_some_of_find (λ x. is_arrival (file_name path) id x.1) t.arrivals) ∙ e) in
-      list_any-map (λ a. nat_eq a.body id) (λ x. x.1) t.arrivals
-      ∙ any_with (λ x. nat_eq x.1.body id) t.arrivals a.0 a.1 (and_parts (bytes_eq a.0.1.name (file_name path)) (nat_eq a.0.1.body id) a.2).1
+      list_any-map (λ x. x.1) (λ a. nat_eq a.body id) t.arrivals
+      ∙ any_true (λ x. nat_eq x.1.body id) t.arrivals a.0 a.1 (and_parts (bytes_eq a.0.1.name (file_name path)) (nat_eq a.0.1.body id) a.2).1
 
   -- the body of a file that is found at its path
   found_arrived : (x : File) → Contains (rows_of t.files) x → (o : Option File) → find (is_file_at x.path) (rows_of t.files) ≡ o

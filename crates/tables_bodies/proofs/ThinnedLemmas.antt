@@ -1,5 +1,6 @@
 -- Pieces of a body that go one by one.
-use Rattle.std.proofs.Common.{◌≡◌, ℕ, Bool, true, false, not, ◌&&◌, cond, nat_eq, List, [], ◌∷◌, filter, IsTrue, refl, sym, ap, ◌∙◌}
+use Rattle.std.proofs.Common.{◌≡◌, ℕ, Bool, true, false, not, cond, nat_eq, List, [], ◌∷◌, filter, IsTrue, refl, sym, ap, ◌∙◌}
+use Rattle.std.proofs.lemmas.Bool.{and_parts}
 use Rattle.sqlite.specs.State.{State}
 use Rattle.sqlite_keyed.specs.Lists.{delete_where}
 use Rattle.tables.specs.Pieces.{is_of, is_piece, without_piece, without_pieces}
@@ -18,13 +19,9 @@ gone_first {X} p q (x ∷ xs) all = go (q x) refl (gone_first p q xs all)
     go true e more = rw (all x e) more
     go false e more = ap (λ l. cond (not (p x)) (x ∷ l) l) more
 
-left_of : (a b : Bool) → (a && b) ≡ true → a ≡ true
-left_of true b e = refl
-left_of false b e = e
-
 one_gone_first : (id number : ℕ) (t : Tables) → without_pieces id (without_piece id number t) ≡ without_pieces id t
 one_gone_first id number t =
-    let same = gone_first (λ (x : ℕ × Piece). is_of id x.1) (λ (x : ℕ × Piece). is_piece id number x.1) t.pieces (λ x e. left_of (is_of id x.1) (nat_eq x.1.number number) e) in
+    let same = gone_first (λ (x : ℕ × Piece). is_of id x.1) (λ (x : ℕ × Piece). is_piece id number x.1) t.pieces (λ x e. (and_parts (is_of id x.1) (nat_eq x.1.number number) e).0) in
     λ i. record t { pieces = same i }
 
 pub thins_none : (id : ℕ) (a : State) → IsTrue a.in_transaction → Thins id a a

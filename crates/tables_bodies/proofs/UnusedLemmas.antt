@@ -2,21 +2,21 @@
 use Rattle.std.proofs.Common.{◌≡◌, ℕ, Bool, true, false, not, ◌&&◌, nat_eq, List, [], ◌∷◌, map, filter, fold, refl, sym, ap, ◌∙◌}
 use Rattle.std.specs.List.{AllByRecursion, list_any}
 use Rattle.std.specs.List.Sorted.{IsPermutation}
-use Rattle.std.proofs.lemmas.Bool.{and_right, eqb-true, or_left, or_right}
+use Rattle.std.proofs.lemmas.Bool.{and_right, eqb-true, or_left, or_right, eq-eqb}
 use Rattle.std.proofs.lemmas.List.Sorted.{list_any-IsPermutation}
 use Rattle.sqlite_keyed.proofs.ListLemmas.{all_weaker, filter-map}
 use Rattle.tables.specs.Pieces.{is_of}
 use Rattle.tables.specs.Rows.{Numbered, Tables, without}
 use Rattle.tables.specs.declared.rows.BodyRow.{BodyRow}
 use Rattle.tables.specs.declared.rows.Piece.{Piece}
+use Rattle.suites.proofs.ListTests.{filter_same_on, same_any, list_any-filter, any_with}
+use Rattle.sums.proofs.Words.{list_any-map}
 use Rattle.tables_bodies.specs.Unused.{unused_in}
 use Rattle.tables_bodies.proofs.RemovedLemmas.{removed_each, taken_out}
 use Rattle.tables_meaning.specs.Finished.{without_all}
 use Rattle.tables_meaning.specs.Kept.{is_used, used_in}
 use Rattle.tables_meaning.specs.Sweeping.{swept}
-use Rattle.tables_meaning.proofs.Searches.{any_same, filter_same_on, list_any-filter, list_any-map}
 use Rattle.tables_meaning.proofs.SweptFinished.{and_true}
-use Rattle.tables_meaning.proofs.FinishedLemmas.{itself}
 
 -- ---- bodies that nothing uses
 
@@ -36,16 +36,11 @@ at_number r id n = go (nat_eq id n) refl
     go true e = ap (λ m. r m && true) (sym (eqb-true id n e))
     go false e = and_right (r n) false refl ∙ sym (and_right (r id) false refl)
 
-factored : {X : Type 0} (c : Bool) (p : X → Bool) (xs : List X) → list_any (λ x. c && p x) xs ≡ (c && list_any p xs)
-factored true p xs = refl
-factored false p [] = refl
-factored false p (x ∷ xs) = factored false p xs
-
 -- each number is that of a body
 each_there : (xs : Numbered BodyRow) → AllByRecursion (λ x. list_any (λ y. nat_eq x.0 y.0) xs ≡ true) xs
 each_there [] = tt
 each_there (x ∷ xs) = (
-  or_left (nat_eq x.0 x.0) (list_any (λ y. nat_eq x.0 y.0) xs) (itself x.0),
+  or_left (nat_eq x.0 x.0) (list_any (λ y. nat_eq x.0 y.0) xs) (eq-eqb x.0 x.0 refl),
   all_weaker (λ y. list_any (λ z. nat_eq y.0 z.0) xs ≡ true) (λ y. list_any (λ z. nat_eq y.0 z.0) (x ∷ xs) ≡ true)
       (λ y h. or_right (nat_eq y.0 x.0) (list_any (λ z. nat_eq y.0 z.0) xs) h) xs (each_there xs),
 )
@@ -53,10 +48,10 @@ each_there (x ∷ xs) = (
 -- a number is among those of the bodies that pass a test on it
 among_passing : (r : ℕ → Bool) (id : ℕ) (xs : Numbered BodyRow) → list_any (λ n. nat_eq id n) (map (λ x. x.0) (filter (λ x. r x.0) xs)) ≡ (r id && list_any (λ x. nat_eq id x.0) xs)
 among_passing r id xs =
-    list_any-map (λ n. nat_eq id n) (λ (x : ℕ × BodyRow). x.0) (filter (λ x. r x.0) xs)
+    list_any-map (λ (x : ℕ × BodyRow). x.0) (λ n. nat_eq id n) (filter (λ x. r x.0) xs)
     ∙ list_any-filter (λ x. nat_eq id x.0) (λ x. r x.0) xs
-    ∙ any_same (λ x. r x.0 && nat_eq id x.0) (λ x. r id && nat_eq id x.0) (λ x. at_number r id x.0) xs
-    ∙ factored (r id) (λ x. nat_eq id x.0) xs
+    ∙ same_any (λ x. r x.0 && nat_eq id x.0) (λ x. r id && nat_eq id x.0) (λ x. at_number r id x.0) xs
+    ∙ any_with (r id) (λ x. nat_eq id x.0) xs
 
 module _ (t : Tables) where
   abbrev unused : ℕ → Bool
@@ -74,7 +69,7 @@ module _ (t : Tables) where
 
   owned : (p : Piece) → list_any (λ n. is_of n p) (unused_in t) ≡ list_any (λ x. unused x.0 && is_of x.0 p) t.bodies
   owned p =
-      list_any-map (λ n. is_of n p) (λ (x : ℕ × BodyRow). x.0) (filter (λ x. unused x.0) t.bodies)
+      list_any-map (λ (x : ℕ × BodyRow). x.0) (λ n. is_of n p) (filter (λ x. unused x.0) t.bodies)
       ∙ list_any-filter (λ x. is_of x.0 p) (λ x. unused x.0) t.bodies
 
   pieces_left : fold (λ rest n. without (λ x. is_of n x.1) rest) t.pieces (unused_in t) ≡ without (λ p. list_any (λ x. unused x.0 && is_of x.0 p.1) t.bodies) t.pieces

@@ -2,7 +2,7 @@
 use Rattle.std.specs.Prelude.{ℕ, ◌+◌, List, [], find, Option, option_map, unwrap_or}
 use Rattle.std.specs.Option.{option_and_then}
 use Rattle.sums.specs.declared.print.Print.{Print}
-use Rattle.keep.specs.Pieces.{PieceValue}
+use Rattle.book.specs.Pieces.{PieceValue}
 use Rattle.tables.specs.Files.{is_file_at}
 use Rattle.tables.specs.Rows.{Tables, rows_of}
 use Rattle.tables_meaning.specs.Coming.{bytes_at}

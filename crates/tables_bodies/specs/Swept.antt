@@ -4,9 +4,9 @@ use Rattle.std.specs.List.{list_all, list_any}
 use Rattle.std.specs.Option.{option_map_or}
 use Rattle.rules.specs.Values.{ConfigValue}
 use Rattle.suites.specs.declared.item.PoolFile.{PoolFile}
-use Rattle.texts.specs.Stanzas.{file_name}
-use Rattle.keep.specs.declared.change.Change.{Change}
-use Rattle.keep.specs.declared.change.Step.{Step}
+use Rattle.indices.specs.Stanzas.{file_name}
+use Rattle.book.specs.declared.change.Change.{Change}
+use Rattle.book.specs.declared.change.Step.{Step}
 use Rattle.tables.specs.Arrivals.{is_arrival}
 use Rattle.tables.specs.Files.{is_file_at}
 use Rattle.tables.specs.Rows.{Tables, rows_of}

@@ -18,6 +18,7 @@ ghost use Rattle.tables_meaning.specs.Calls.{Undoes};
 ghost use Rattle.tables_bodies.specs.Calls.{AnswersOf};
 
 use crate::sweeping::sweep;
+use book::Counting;
 use sqlite::{Alter, Connection, Error, Transaction};
 use std::alloc::Global;
 use sums::Print;
@@ -33,13 +34,7 @@ use tables::wants::{delete_wants, mark_away};
 pub fn counts(span: Option<u64>, moment: u64, arrival: &ArrivalRow) -> bool
     ensures { result ≡ counts_row span moment arrival.now }
 {
-    let Some(span) = span else {
-        return true;
-    };
-    match moment.checked_sub(arrival.moment) {
-        Some(age) => age < span,
-        None => true,
-    }
+    Counting { span, moment }.counts_since(arrival.moment)
 }
 
 /// Keeps only the arrivals that do not count.

@@ -4,13 +4,13 @@
 
 ghost use Rattle.std.specs.Prelude.{◌≡◌, [], false, Some, unwrap_or};
 ghost use Rattle.std.specs.Option.{option_map};
-ghost use Rattle.keep.specs.Pieces.{piece_value};
+ghost use Rattle.book.specs.Pieces.{piece_value};
 ghost use Rattle.tables.specs.Calls.{CommitsNoRows, Reads};
 ghost use Rattle.tables_bodies.specs.FilePieces.{piece_in, stored_piece};
 ghost use Rattle.tables_meaning.specs.Calls.{ReadUndone};
 ghost use Rattle.tables_meaning.specs.Kept.{print_at};
 
-use keep::FilePiece;
+use book::FilePiece;
 use sqlite::{Alter, Connection, Error, ErrorCode};
 use std::alloc::Global;
 use sums::Print;

@@ -21,6 +21,7 @@ pub use cleaning::{clean, counts};
 pub use coming::{Begun, store_piece};
 pub use file_pieces::{file_piece, print_numbered};
 pub use finishing::{Finished, finish_body};
+pub use listing::changes_of;
 pub use reading::{file_body, read_body};
 pub use removing::remove_all;
 pub use sparing::{needs_sweep, some_take_files};

@@ -20,8 +20,8 @@ use sqlite::{Alter, Error, ErrorCode, Transaction};
 use std::alloc::Global;
 use sums::{Entry, is_changes_name};
 
-/// The record of a .changes.
-fn changes_of(alloc: Global, body: &[u8]) -> Result<Changes, Error>
+/// The record that the body of a .changes is. A body that is no record cannot be in an archive, and is refused.
+pub fn changes_of(alloc: Global, body: &[u8]) -> Result<Changes, Error>
     ensures { IfOk result (λ c. changes_in body.now ≡ Ok c) }
 {
     match Changes::read(alloc, body) {

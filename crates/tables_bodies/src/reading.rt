@@ -11,17 +11,10 @@ ghost use Rattle.tables_meaning.specs.Calls.{ReadUndone};
 
 use sqlite::{Alter, Connection, Error, Transaction};
 use std::alloc::{AllocError, Global};
-use std::cmp::Ordering;
 use tables::files::file_at;
 use tables::pieces::{pieces_of, pieces_of_inside};
 use tables::rows::Piece;
-
-/// The order of the pieces of a body: by number.
-fn piece_order(a: &Piece, b: &Piece) -> Ordering
-    ensures { result ≡ piece_order a.now b.now }
-{
-    a.number.cmp(&b.number)
-}
+use tables_meaning::piece_order;
 
 /// Pieces in their order.
 fn in_order(mut pieces: Vec<Piece>) -> Result<Vec<Piece>, AllocError>

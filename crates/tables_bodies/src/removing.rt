@@ -5,7 +5,7 @@
 //! command that only reads. An archive that is open answers reads as before.
 //!
 //! A DELETE holds all rows that it takes, and a row holds the bytes of its piece. So a large body goes piece by piece, and one statement
-//! takes what is left: with pieces numbered from 1 that is 4 MiB at most. This is about memory alone: whatever numbers the pieces have,
+//! takes what is left: with pieces numbered from 1 that is 512 KiB at most. This is about memory alone: whatever numbers the pieces have,
 //! the last statement leaves none.
 
 ghost use Rattle.std.specs.Prelude.{◌≡◌, ◌≢◌, [], false, IsTrue, OnOk};
@@ -22,10 +22,10 @@ use sqlite::{Alter, Connection, Error, Transaction};
 use tables::bodies::delete_body;
 use tables::pieces::{delete_piece, delete_pieces_of};
 
-/// The first piece that goes by itself. Those before it are 4 MiB at most, and go at once.
-const FIRST_BY_ITSELF: u64 = 65;
+/// The first piece that goes by itself. Those before it are 512 KiB at most, and go at once.
+const FIRST_BY_ITSELF: u64 = 9;
 
-/// Removes the pieces of a body one by one, from the 65th on, until none has the next number. Each is found by the key of the table.
+/// Removes the pieces of a body one by one, from the ninth on, until none has the next number. Each is found by the key of the table.
 fn remove_later_pieces<S: Alter>(tx: &mut Transaction<'_, S>, id: u64) -> Result<(), Error>
     ensures same_reference { IsSame tx.old tx.new }
     ensures ok { Inside S.Store tx.old tx.new (λ old new. OnOk result (Thins id old new)) }

@@ -15,7 +15,7 @@ ghost use Rattle.tables_bodies.specs.Swept.{has_arrived, has_arrived_under, have
 ghost use Rattle.tables.specs.Calls.{CommitsNoRows, NeverCommits, OnCleanDisk, Reads};
 ghost use Rattle.tables_meaning.specs.Calls.{ReadUndone, ReadsAtRest, WithBook};
 
-use keep::Step;
+use book::Step;
 use sqlite::{Alter, Connection, Error};
 use std::alloc::Global;
 use suites::PoolFile;

@@ -19,7 +19,7 @@ mod stepping;
 
 use crate::amending::renewing::{renew_dates, renew_texts};
 use crate::amending::stepping::make_steps;
-use keep::Change;
+use book::Change;
 use rules::Config;
 use sqlite::{Alter, Connection, Error, Transaction};
 use std::alloc::Global;

@@ -6,7 +6,7 @@
 ghost use Rattle.std.specs.Prelude.{◌≡◌, ◌≤◌, false, All, length, OnOk};
 ghost use Rattle.sqlite.specs.State.{Survives};
 ghost use Rattle.sqlite.specs.Held.{state};
-ghost use Rattle.keep.specs.Book.{latest};
+ghost use Rattle.book.specs.Book.{latest};
 ghost use Rattle.tables_meaning.specs.Configuring.{with_configured};
 ghost use Rattle.tables_meaning.specs.Transactions.{IsDone, MayCommit};
 ghost use Rattle.tables.specs.Calls.{CommitsNothing, IsSame, KeepsCommitted, OnCleanDisk, Writes};

@@ -13,7 +13,7 @@ ghost use Rattle.tables.specs.Calls.{OnCleanDisk};
 ghost use Rattle.tables_meaning.specs.Calls.{Undoes};
 
 use crate::founding::found_inside;
-use keep::LATEST;
+use book::LATEST;
 use rules::Config;
 use sqlite::{Alter, Connection, Error};
 use std::alloc::Global;

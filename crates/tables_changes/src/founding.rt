@@ -1,14 +1,13 @@
 //! The first rows of an archive.
 
-ghost use Rattle.std.specs.Prelude.{◌≡◌, ◌≤◌, ◌<◌, All, length, map, zip, IfOk, OnOk};
-ghost use Rattle.texts.specs.Indices.{all_texts};
-ghost use Rattle.texts.specs.Places.{place_entry};
-ghost use Rattle.texts.specs.Positions.{indices_at, release_at};
+ghost use Rattle.std.specs.Prelude.{◌≡◌, ◌≤◌, ◌<◌, All, length, map, zip, OnOk};
+ghost use Rattle.indices.specs.Indices.{all_texts};
+ghost use Rattle.indices.specs.Places.{place_entry};
 ghost use Rattle.tables_meaning.specs.Founding.{Continues, Founds, founded, from_root, listed_at, placed_texts, suite_texts_at, with_dates, with_first_rows, with_path_text, with_texts};
 ghost use Rattle.tables_meaning.specs.Kept.{date_row};
 ghost use Rattle.tables.specs.Calls.{CommitsNothing, Inside, IsSame, KeepsCommitted, Writes};
 
-use keep::LATEST;
+use book::LATEST;
 use rules::{Config, Suite};
 use sqlite::{Alter, Error, Transaction};
 use std::alloc::{AllocError, Global};
@@ -17,25 +16,7 @@ use tables::dates::insert_date;
 use tables::meta::{VERSION, insert_meta};
 use tables::schema::{create_indexes, create_tables};
 use tables::texts::insert_text;
-use texts::{IndexPlace, index_path, indices_of, listed_text, path_in, places_of, release};
-
-/// The Release of the suite at the position, whose shown items last changed at the moment.
-fn release_of(
-    alloc: Global,
-    config: &Config,
-    shelves: &Shelves,
-    position: usize,
-    moment: u64,
-) -> Result<Vec<u8>, AllocError>
-    requires suite { position < length config.now.suites }
-    requires moment { moment ≤ LATEST }
-    ensures { IfOk result (λ text. text.items ≡ release_at config.now position moment (indices_at config.now shelves.now position)) }
-{
-    let indices = indices_of(alloc, config, shelves, position)?;
-    let mut text = Vec::new(alloc);
-    release(alloc, config, position, moment, &indices, &mut text)?;
-    Ok(text)
-}
+use texts::{IndexPlace, index_path, listed_text, path_in, places_of, release_of};
 
 /// Adds a text in the folder of the suite.
 fn insert_in_folder<S: Alter>(

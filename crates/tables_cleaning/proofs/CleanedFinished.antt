@@ -8,8 +8,8 @@ use Rattle.sqlite_keyed.proofs.ListLemmas.{all-filter, all_weaker, filter-map, f
 use Rattle.rules.specs.Values.{ConfigValue}
 use Rattle.sums.specs.declared.print.Print.{Print}
 use Rattle.suites.specs.Shelves.{ShelvesValue}
-use Rattle.keep.specs.Book.{counts, ended, span}
-use Rattle.keep.specs.declared.change.Judgement.{Judgement}
+use Rattle.book.specs.Book.{counts, ended, span}
+use Rattle.book.specs.declared.change.Judgement.{Judgement}
 use Rattle.tables.specs.Rows.{Numbered, Rises, Tables, rows_of, without}
 use Rattle.tables.specs.Uploads.{is_judged as has_place, is_upload, without_upload}
 use Rattle.tables.specs.Wants.{with_away, without_wants}

@@ -4,6 +4,7 @@ use Rattle.std.specs.List.{AllByRecursion, list_any, cons_option}
 use Rattle.std.proofs.lemmas.Bool.{and_from, and_parts, and_right, eq-eqb, eqb-true, or_cases, or_left, or_right}
 use Rattle.std.proofs.lemmas.List.Elements.{All-contains, All-from_recursion, recursion_from_All}
 use Rattle.std.proofs.lemmas.List.Sorted.{Contains-permutation, IsPermutation-sym}
+use Rattle.std.proofs.Math.Bool.{and_comm}
 use Rattle.sqlite_keyed.specs.Lists.{sort_by as sorted_by}
 use Rattle.sqlite_keyed.proofs.SortLemmas.{IsPermutation-sort_by}
 use Rattle.sqlite_keyed.proofs.ListLemmas.{all-filter, all_weaker, filter_same}
@@ -11,11 +12,13 @@ use Rattle.rules.specs.Values.{ConfigValue}
 use Rattle.sums.specs.Prints.{print as print_of}
 use Rattle.sums.specs.declared.print.Print.{Print}
 use Rattle.sums.proofs.Members.{any_none, any_false, any_some, any_true, contains_map, from_map, here, no_member, there, which}
+use Rattle.sums.proofs.Words.{list_any-map}
 use Rattle.suites.specs.Shelves.{ShelvesValue}
-use Rattle.keep.specs.Book.{Candidate, candidate_of, candidates, is_judged, span}
-use Rattle.keep.specs.Keeping.{sign_of}
-use Rattle.keep.specs.declared.arrival.Arrival as book
-use Rattle.keep.specs.declared.change.Judgement.{Judgement}
+use Rattle.suites.proofs.ListTests.{same_tests, filter_same_on, same_any, list_any-filter, not_either}
+use Rattle.book.specs.Book.{Candidate, candidate_of, candidates, is_judged, span}
+use Rattle.book.specs.Keeping.{sign_of}
+use Rattle.book.specs.declared.arrival.Arrival as book
+use Rattle.book.specs.declared.change.Judgement.{Judgement}
 use Rattle.tables.specs.Rows.{Numbered, Rises, Tables, rows_of, without}
 use Rattle.tables.specs.Uploads.{is_judged as has_place}
 use Rattle.tables.specs.Wants.{is_wanted_by}
@@ -27,13 +30,13 @@ use Rattle.tables_meaning.specs.Kept.{AreArrivals, AreNumbered, AreStored, AreUp
 use Rattle.tables_meaning.proofs.NumberOrders.{want_order_total}
 use Rattle.tables_meaning.specs.Sweeping.{swept}
 use Rattle.tables_meaning.proofs.AmendedLemmas.{print_is}
-use Rattle.tables_meaning.proofs.BodyLemmas.{all_if, are_stored, list_any-map}
-use Rattle.keep.proofs.Arrivals.{any_same as any_alike}
+use Rattle.tables_meaning.proofs.BodyLemmas.{all_if, are_stored}
+use Rattle.book.proofs.Arrivals.{any_same as any_alike}
 use Rattle.tables_meaning.proofs.RequestLemmas.{requests, rows_from_uploads, sign_at, sign_made}
-use Rattle.tables_meaning.proofs.Searches.{all_of_rows, any_same, any_weaker, filter_same_on, filter_twice, list_any-filter, map_same_on, same_tests}
+use Rattle.tables_meaning.proofs.Searches.{all_of_rows, any_weaker, filter_twice, map_same_on}
 use Rattle.tables_meaning.proofs.WantLemmas.{AreRows, any_waiting, entry_in, is_sign, is_sign-Decides, is_sign-turned, is_waiting, request, waits_as, wants_of}
 use Rattle.tables_meaning.proofs.WantingLemmas.{only_one}
-use Rattle.tables_cleaning.proofs.CurrentLemmas.{bears, own_counts, of_one_row, swapped, there_by}
+use Rattle.tables_cleaning.proofs.CurrentLemmas.{bears, own_counts, of_one_row, there_by}
 use Rattle.tables_cleaning.proofs.GoneLemmas.{ends, ends_with, gone_rows, had, turned_off, without_each}
 
 -- ---- lists
@@ -48,14 +51,10 @@ in_filter {X} p x (y ∷ ys) h e = go (p y) refl (which y x ys h) (λ later. in_
     go false k (inl same) more = absurd (true≢false (sym e ∙ ap p (sym same) ∙ k))
     go false k (inr later) more = more later
 
-is_numbered_turned : (a b : ℕ) → nat_eq a b ≡ nat_eq b a
+pub is_numbered_turned : (a b : ℕ) → nat_eq a b ≡ nat_eq b a
 is_numbered_turned a b = same_tests (nat_eq a b) (nat_eq b a) (λ e. eq-eqb b a (sym (eqb-true a b e))) (λ e. eq-eqb a b (sym (eqb-true b a e)))
 
 -- ---- rows that go by their numbers
-
-either : (a b : Bool) → (not a && not b) ≡ not (a || b)
-either true b = refl
-either false b = refl
 
 all_stay : {X : Type 0} (xs : List X) → xs ≡ filter (λ x. true) xs
 all_stay [] = refl
@@ -67,7 +66,7 @@ without_each-is (x ∷ gone) left =
     without_each-is gone (without (λ r. nat_eq r.0 x.0) left)
     ∙ sym (filter_twice (λ r. not (nat_eq r.0 x.0)) (λ r. not (list_any (λ y. nat_eq r.0 y.0) gone)) left)
     ∙ filter_same (λ r. not (nat_eq r.0 x.0) && not (list_any (λ y. nat_eq r.0 y.0) gone)) (λ r. not (nat_eq r.0 x.0 || list_any (λ y. nat_eq r.0 y.0) gone))
-    (λ r. either (nat_eq r.0 x.0) (list_any (λ y. nat_eq r.0 y.0) gone)) left
+    (λ r. (sym (not_either (nat_eq r.0 x.0) (list_any (λ y. nat_eq r.0 y.0) gone)))) left
 
 -- the rows that pass a test, gone by their numbers
 without_passing : (test : ℕ × ArrivalRow → Bool) (rows : Numbered ArrivalRow) → Rises rows → without_each rows (filter test rows) ≡ without test rows
@@ -80,8 +79,8 @@ without_passing test rows up =
     numbered : (r : ℕ × ArrivalRow) → list_any (λ x. nat_eq r.0 x.0) (filter test rows) ≡ list_any (λ z. nat_eq z.0 r.0 && test z) rows
     numbered r =
         list_any-filter (λ x. nat_eq r.0 x.0) test rows
-        ∙ any_same (λ x. test x && nat_eq r.0 x.0) (λ z. nat_eq z.0 r.0 && test z)
-        (λ z. swapped (test z) (nat_eq r.0 z.0) ∙ ap (λ b. b && test z) (is_numbered_turned r.0 z.0)) rows
+        ∙ same_any (λ x. test x && nat_eq r.0 x.0) (λ z. nat_eq z.0 r.0 && test z)
+        (λ z. and_comm (test z) (nat_eq r.0 z.0) ∙ ap (λ b. b && test z) (is_numbered_turned r.0 z.0)) rows
 
 -- the sign of a candidate is that of an arrival
 sign_arrived : (s : List ℕ × Print) (arrivals : List book.Arrival) → list_any (λ c. is_sign s (sign_of c)) (candidates arrivals) ≡ true → list_any (λ a. is_sign s (sign_at a)) arrivals ≡ true
@@ -115,9 +114,9 @@ module _ (t : Tables) (stored : AreStored t) (arrived : AreArrivals t) (seconds 
   gone_by : (name : List ℕ) (print : Print) → gone name print ≡ list_any (λ a. bears t name print a && ended a) (rows_of t.arrivals)
   gone_by name print =
       list_any-filter (λ x. had t x name print) (λ x. ended x.1) t.arrivals
-      ∙ any_same (λ x. ended x.1 && had t x name print) (λ x. bears t name print x.1 && ended x.1)
-      (λ x. swapped (ended x.1) (had t x name print) ∙ ap (λ b. b && ended x.1) (is_sign-turned (x.1.name, print_of (bytes_of t x.1.body)) (name, print))) t.arrivals
-      ∙ sym (list_any-map (λ a. bears t name print a && ended a) (λ x. x.1) t.arrivals)
+      ∙ same_any (λ x. ended x.1 && had t x name print) (λ x. bears t name print x.1 && ended x.1)
+      (λ x. and_comm (ended x.1) (had t x name print) ∙ ap (λ b. b && ended x.1) (is_sign-turned (x.1.name, print_of (bytes_of t x.1.body)) (name, print))) t.arrivals
+      ∙ sym (list_any-map (λ x. x.1) (λ a. bears t name print a && ended a) t.arrivals)
 
   -- a name and a print that came have gone exactly if they are not current
   gone_is : (name : List ℕ) (print : Print) → gone name print ≡ (has_come name print && not (cur name print))
@@ -146,12 +145,12 @@ module _ (t : Tables) (stored : AreStored t) (arrived : AreArrivals t) (seconds 
         let row : list_any (λ y. is_waiting y && is_sign s (sign_in y.1)) t.uploads ≡ true =
         any_true (λ y. is_waiting y && is_sign s (sign_in y.1)) t.uploads x c (and_from (is_waiting x) (is_sign s s) waits ((is_sign-Decides s s).1 refl)) in
         let asked : list_any (λ d. is_sign s (sign_of d)) (filter unjudged (candidates (arrivals_in t))) ≡ true =
-        sym (list_any-map (λ r. is_sign s r.0) (request_of (arrivals_in t)) (filter unjudged (candidates (arrivals_in t))))
+        sym (list_any-map (request_of (arrivals_in t)) (λ r. is_sign s r.0) (filter unjudged (candidates (arrivals_in t))))
         ∙ sym (any_waiting t.uploads (rows_of t.wants) judged (requests (arrivals_in t) judged) rows s) ∙ row in
         let made : list_any (λ d. is_sign s (sign_of d)) (candidates (arrivals_in t)) ≡ true =
         any_weaker (λ d. unjudged d && is_sign s (sign_of d)) (λ d. is_sign s (sign_of d)) (λ d h. (and_parts (unjudged d) (is_sign s (sign_of d)) h).1) (candidates (arrivals_in t))
         (sym (list_any-filter (λ d. is_sign s (sign_of d)) unjudged (candidates (arrivals_in t))) ∙ asked) in
-        sym (list_any-map (λ a. is_sign s (sign_at a)) (arrival_in t) (rows_of t.arrivals)) ∙ sign_arrived s (arrivals_in t) made
+        sym (list_any-map (arrival_in t) (λ a. is_sign s (sign_at a)) (rows_of t.arrivals)) ∙ sign_arrived s (arrivals_in t) made
 
     -- an upload is judged, or it has gone exactly if it is not current
     same_end : (x : ℕ × UploadRow) → Contains t.uploads x → ends gone x ≡ has_ended seconds moment t x.1

@@ -5,14 +5,16 @@ use Rattle.std.specs.Option.{option_map_or}
 use Rattle.std.proofs.lemmas.Bool.{and_from, and_parts, and_right, eq-eqb, false≢true}
 use Rattle.std.proofs.lemmas.List.Elements.{All-contains, All-same}
 use Rattle.std.proofs.lemmas.Slice.Eq.{bytes_eq-Decides}
+use Rattle.std.proofs.Math.Bool.{and_comm, not-not}
 use Rattle.sqlite_keyed.proofs.ListLemmas.{ascending-filter, filter-map, filter_same}
 use Rattle.sums.specs.Prints.{print as print_of, same_print}
 use Rattle.sums.specs.declared.entries.Entry.{Entry}
 use Rattle.sums.specs.declared.print.Print.{Print}
-use Rattle.sums.proofs.Members.{any_some, any_true}
-use Rattle.keep.specs.Book.{counts, current, is_body_of, is_there, latest}
-use Rattle.keep.specs.Keeping.{IsDeliverable}
-use Rattle.keep.proofs.Prints.{same_print-Decides}
+use Rattle.sums.proofs.Members.{any_some, any_true, any_none}
+use Rattle.sums.proofs.Words.{list_any-map}
+use Rattle.book.specs.Book.{counts, current, is_body_of, is_there, latest}
+use Rattle.book.specs.Keeping.{IsDeliverable}
+use Rattle.book.proofs.Prints.{same_print-Decides}
 use Rattle.tables.specs.Arrivals.{is_arrival}
 use Rattle.tables.specs.Bodies.{body_with}
 use Rattle.tables.specs.Rows.{Tables, rows_of}
@@ -21,20 +23,11 @@ use Rattle.tables.proofs.Pairwise.{ascending_from_pairs, pairs_from_ascending}
 use Rattle.tables_meaning.specs.Cleaning.{counts_row, is_current, with_current}
 use Rattle.tables_meaning.specs.Kept.{AreArrivals, AreStored, arrival_in, arrivals_in, bytes_of, has_body}
 use Rattle.tables_meaning.proofs.ArrivalLemmas.{counts_as}
-use Rattle.tables_meaning.proofs.BodyLemmas.{HasBody, any_false, apart_same, by_number, its_print, list_any-map, of_no_print, same_number}
-use Rattle.keep.proofs.Arrivals.{any_same}
-use Rattle.tables_meaning.proofs.Searches.{any_weaker, list_any-filter, same_tests}
+use Rattle.tables_meaning.proofs.BodyLemmas.{HasBody, apart_same, by_number, its_print, of_no_print, same_number}
+use Rattle.book.proofs.Arrivals.{any_same}
+use Rattle.tables_meaning.proofs.Searches.{any_weaker}
 use Rattle.tables_meaning.proofs.ChangeLemmas.{some_of}
-
-pub swapped : (a b : Bool) → (a && b) ≡ (b && a)
-swapped true true = refl
-swapped true false = refl
-swapped false true = refl
-swapped false false = refl
-
-not_not : (a : Bool) → not (not a) ≡ a
-not_not true = refl
-not_not false = refl
+use Rattle.suites.proofs.ListTests.{same_tests, list_any-filter}
 
 neither_print : (a b : Bool) → ((a && false) && b) ≡ false
 neither_print true b = refl
@@ -62,7 +55,7 @@ module _ (t : Tables) (stored : AreStored t) (arrivals : AreArrivals t) (seconds
       by : (o : Option ℕ) → body_with print t.bodies ≡ o
           → option_map_or (λ body. list_any (λ a. is_arrival name body a && counting a) (rows_of t.arrivals)) o false ≡ list_any (λ a. bears t name print a && counting a) (rows_of t.arrivals)
       by None is =
-          sym (any_false (λ a. bears t name print a && counting a) (rows_of t.arrivals)
+          sym (any_none (λ a. bears t name print a && counting a) (rows_of t.arrivals)
           (λ a c. ap (λ q. (bytes_eq a.name name && q) && counting a) (of_no_print t stored print is a.body (its_body a c)) ∙ neither_print (bytes_eq a.name name) (counting a)))
       by (Some found) is =
           any_same (λ a. is_arrival name found a && counting a) (λ a. bears t name print a && counting a) (rows_of t.arrivals)
@@ -72,7 +65,7 @@ module _ (t : Tables) (stored : AreStored t) (arrivals : AreArrivals t) (seconds
 
   pub there_by : (e : Entry) → is_there (arrivals_in t) e ≡ list_any (bears t e.name e.print) (rows_of t.arrivals)
   unfolding is_there is_body_of arrivals_in
-  there_by e = list_any-map (is_body_of e) (arrival_in t) (rows_of t.arrivals)
+  there_by e = list_any-map (arrival_in t) (is_body_of e) (rows_of t.arrivals)
 
   -- a listed file is there and counts exactly if it is there among those that count
   pub current_there : (e : Entry) → cur e.name e.print ≡ is_there (current seconds moment (arrivals_in t)) e
@@ -80,8 +73,8 @@ module _ (t : Tables) (stored : AreStored t) (arrivals : AreArrivals t) (seconds
   current_there e =
       current_by e.name e.print
       ∙ any_same (λ a. bears t e.name e.print a && counting a) (λ a. counts seconds moment (arrival_in t a) && is_body_of e (arrival_in t a)) (rows_of t.arrivals)
-      (λ a c. ap (λ q. bears t e.name e.print a && q) (counts_as t seconds moment a) ∙ swapped (bears t e.name e.print a) (counts seconds moment (arrival_in t a)))
-      ∙ sym (list_any-map (λ b. counts seconds moment b && is_body_of e b) (arrival_in t) (rows_of t.arrivals))
+      (λ a c. ap (λ q. bears t e.name e.print a && q) (counts_as t seconds moment a) ∙ and_comm (bears t e.name e.print a) (counts seconds moment (arrival_in t a)))
+      ∙ sym (list_any-map (arrival_in t) (λ b. counts seconds moment b && is_body_of e b) (rows_of t.arrivals))
       ∙ sym (list_any-filter (is_body_of e) (counts seconds moment) (map (arrival_in t) (rows_of t.arrivals)))
 
   -- what is there among those that count is there
@@ -147,7 +140,7 @@ module _ (t : Tables) (stored : AreStored t) (arrivals : AreArrivals t) (seconds
   pub rows_left : rows_of now.arrivals ≡ filter counting (rows_of t.arrivals)
   unfolding with_current
   rows_left =
-      ap (map (λ x. x.1)) (filter_same (λ x. not (not (counting x.1))) (λ x. counting x.1) (λ x. not_not (counting x.1)) t.arrivals)
+      ap (map (λ x. x.1)) (filter_same (λ x. not (not (counting x.1))) (λ x. counting x.1) (λ x. not-not (counting x.1)) t.arrivals)
       ∙ sym (filter-map counting (λ x. x.1) t.arrivals)
 
   pub arrivals_current : arrivals_in now ≡ current seconds moment (arrivals_in t)

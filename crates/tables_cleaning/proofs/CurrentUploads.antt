@@ -3,10 +3,11 @@
 use Rattle.std.proofs.Common.{◌≡◌, ◌≢◌, ℕ, ◌+◌, Bool, true, false, not, ◌&&◌, cond, nat_eq, List, [], ◌∷◌, map, filter, find, Contains, Option, Some, None, is_some, IsTrue, refl, sym, ap, ap₂, ◌∙◌, true≢false}
 use Rattle.std.specs.List.{AllByRecursion, filter_map, list_any, cons_option}
 use Rattle.std.specs.Option.{option_map_or}
-use Rattle.std.proofs.lemmas.Bool.{and_from, and_parts, and_right, eqb-true, not_from_false}
+use Rattle.std.proofs.lemmas.Bool.{and_from, and_parts, and_right, eqb-true, not_from_false, not-true}
 use Rattle.std.specs.List.Sorted.{IsPermutation}
 use Rattle.std.proofs.lemmas.List.Elements.{recursion_from_All}
 use Rattle.std.proofs.lemmas.List.Sorted.{IsPermutation-map, IsPermutation-trans}
+use Rattle.std.proofs.Math.Bool.{and_comm}
 use Rattle.sqlite_keyed.specs.Lists.{sort_by as sorted_by}
 use Rattle.sqlite_keyed.proofs.SortLemmas.{sort_by-map}
 use Rattle.sqlite_keyed.proofs.ListLemmas.{IsPermutation-filter, IsPermutation-same, all-filter, all_map, all_of, all_weaker, ascending-filter, filter-filter, filter-map, filter_same, map-map, map_same}
@@ -14,10 +15,10 @@ use Rattle.sums.specs.Prints.{print as print_of}
 use Rattle.sums.specs.declared.entries.Entry.{Entry}
 use Rattle.sums.specs.declared.print.Print.{Print}
 use Rattle.sums.proofs.Members.{any_false, any_some, any_true}
-use Rattle.keep.specs.Book.{Candidate, candidate_of, candidates, counts, current, is_judged}
-use Rattle.keep.specs.Keeping.{sign_of}
-use Rattle.keep.specs.declared.arrival.Arrival as book
-use Rattle.keep.specs.declared.change.Judgement.{Judgement}
+use Rattle.book.specs.Book.{Candidate, candidate_of, candidates, counts, current, is_judged}
+use Rattle.book.specs.Keeping.{sign_of}
+use Rattle.book.specs.declared.arrival.Arrival as book
+use Rattle.book.specs.declared.change.Judgement.{Judgement}
 use Rattle.tables.specs.Rows.{Numbered, Rises, Tables, rows_of, without}
 use Rattle.tables.specs.Uploads.{is_judged as has_place}
 use Rattle.tables.specs.Wants.{is_wanted_by}
@@ -30,11 +31,12 @@ use Rattle.tables_meaning.proofs.ArrivalLemmas.{counts_as}
 use Rattle.tables_meaning.proofs.BodyLemmas.{all_if}
 use Rattle.tables_meaning.proofs.RequestLemmas.{requests, rows_from_uploads, sign_made, uploads_from_rows}
 use Rattle.tables_meaning.proofs.RowLists.{all_filtered, find_kept}
-use Rattle.tables_meaning.proofs.Searches.{filter_twice, list_any-filter}
+use Rattle.tables_meaning.proofs.Searches.{filter_twice}
 use Rattle.tables_meaning.proofs.WantLemmas.{AreRows, Sign, entry_in, is_waiting, request, waits_as, wants_of}
 use Rattle.tables_meaning.proofs.WantingLemmas.{only_one}
 use Rattle.tables_meaning.proofs.SweptFinished.{and_true}
-use Rattle.tables_cleaning.proofs.CurrentLemmas.{arrivals_current, bears_itself, own_counts, swapped, there_then}
+use Rattle.suites.proofs.ListTests.{list_any-filter}
+use Rattle.tables_cleaning.proofs.CurrentLemmas.{arrivals_current, bears_itself, own_counts, there_then}
 
 -- ---- lists
 
@@ -56,7 +58,7 @@ candidates-filter {X} {Y} f p q (x ∷ xs) h = by_kind (candidates-filter f p q 
 
 -- two tests, in either order
 filter_turned : {X : Type 0} (p q : X → Bool) (xs : List X) → filter p (filter q xs) ≡ filter q (filter p xs)
-filter_turned p q xs = sym (filter_twice q p xs) ∙ filter_same (λ x. q x && p x) (λ x. p x && q x) (λ x. swapped (q x) (p x)) xs ∙ filter_twice p q xs
+filter_turned p q xs = sym (filter_twice q p xs) ∙ filter_same (λ x. q x && p x) (λ x. p x && q x) (λ x. and_comm (q x) (p x)) xs ∙ filter_twice p q xs
 
 -- an upload that waits and has not ended is current
 still : (j c : Bool) → (not (not j && not c) && not j) ≡ (not j && c)
@@ -135,7 +137,7 @@ module _ (t : Tables) (seconds : Option ℕ) (moment : ℕ) where
       ]
 
   -- the wants of an upload that has not ended
-  rows_then : (id : ℕ) → has_gone id ≡ false → (ws : List Want) → filter (is_wanted_by id) (map turn (filter stays ws)) ≡ map turn (filter (is_wanted_by id) ws)
+  pub rows_then : (id : ℕ) → has_gone id ≡ false → (ws : List Want) → filter (is_wanted_by id) (map turn (filter stays ws)) ≡ map turn (filter (is_wanted_by id) ws)
   rows_then id none ws =
       filter-map (is_wanted_by id) turn (filter stays ws)
       ∙ ap (map turn) (filter_same (λ w. is_wanted_by id (turn w)) (is_wanted_by id) (λ w. ap (λ n. nat_eq n id) (turn_upload w)) (filter stays ws)
@@ -254,15 +256,11 @@ module _ (t : Tables) (seconds : Option ℕ) (moment : ℕ) where
     owner_stays w owned h =
         let x = any_some (waits_as w.upload) t.uploads owned in
         let parts = and_parts (nat_eq x.0.0 w.upload) (not (has_place x.0.1)) x.2 in
-        let none : (nat_eq x.0.0 w.upload && ended x.0.1) ≡ false = any_false (λ y. nat_eq y.0 w.upload && ended y.1) t.uploads x.0 (unset (has_gone w.upload) h) x.1 in
+        let none : (nat_eq x.0.0 w.upload && ended x.0.1) ≡ false = any_false (λ y. nat_eq y.0 w.upload && ended y.1) t.uploads x.0 (not-true (has_gone w.upload) h) x.1 in
         let lives : ended x.0.1 ≡ false = ap (λ b. b && ended x.0.1) (sym parts.0) ∙ none in
         list_any-filter (waits_as w.upload) (λ y. not (ended y.1)) t.uploads
         ∙ any_true (λ y. not (ended y.1) && waits_as w.upload y) t.uploads x.0 x.1
         (and_from (not (ended x.0.1)) (waits_as w.upload x.0) (not_from_false (ended x.0.1) lives) x.2)
-      where
-        unset : (b : Bool) → not b ≡ true → b ≡ false
-        unset true e = absurd (true≢false (sym e))
-        unset false e = refl
 
     owned_then : AllByRecursion (λ w. list_any (waits_as w.upload) left ≡ true) wants
     owned_then =

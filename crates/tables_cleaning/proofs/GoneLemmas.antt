@@ -5,6 +5,7 @@ use Rattle.std.specs.Option.{option_map_or}
 use Rattle.std.proofs.lemmas.Bool.{and_from, and_parts, and_right, eq-eqb, eqb-true, false_from_ne_true}
 use Rattle.std.proofs.lemmas.List.{map-id}
 use Rattle.std.proofs.lemmas.List.Elements.{All-contains, All-from_recursion}
+use Rattle.std.proofs.Math.Bool.{or_assoc, or-false}
 use Rattle.sqlite_trees.specs.Tree.{IsAscending}
 use Rattle.sqlite_keyed.proofs.ListLemmas.{all_of, all_weaker, any_from_none, ascending-filter, ascending_weaker, filter_all, filter-map, filter_same, map-map, map_same}
 use Rattle.sums.specs.Prints.{print as print_of, same_print}
@@ -21,8 +22,9 @@ use Rattle.tables_meaning.specs.Cleaning.{with_gone, without_request}
 use Rattle.tables_meaning.specs.Kept.{bytes_of, print_at, sign_in}
 use Rattle.tables_meaning.proofs.BodyLemmas.{found}
 use Rattle.tables_meaning.proofs.RowLists.{none_passes, number_is, only_one}
-use Rattle.tables_meaning.proofs.Searches.{all_both, any_same, filter_same_on, filter_twice, list_any-filter, same_tests}
+use Rattle.tables_meaning.proofs.Searches.{all_both, filter_twice}
 use Rattle.tables_meaning.proofs.WantLemmas.{is_sign-Decides}
+use Rattle.suites.proofs.ListTests.{same_tests, filter_same_on, same_any, list_any-filter, not_either}
 
 -- ---- lists
 
@@ -45,12 +47,8 @@ any_or p q (x ∷ xs) = ap (λ b. (p x || q x) || b) (any_or p q xs) ∙ mixed (
 none_go : {X : Type 0} (p : X → Bool) (xs : List X) → AllByRecursion (λ x. p x ≡ false) xs → filter (λ x. not (p x)) xs ≡ xs
 none_go p xs h = filter_all (λ x. not (p x)) xs (all_weaker (λ x. p x ≡ false) (λ x. not (p x) ≡ true) (λ x e. ap not e) xs h)
 
-neither : (a b : Bool) → (not a && not b) ≡ not (a || b)
-neither true b = refl
-neither false b = refl
-
 nor_under : (u a h : Bool) → (not (u && a) && not (u && h)) ≡ not (u && (a || h))
-nor_under true a h = neither a h
+nor_under true a h = (sym (not_either a h))
 nor_under false a h = refl
 
 or_under : (n u a h : Bool) → ((n && (u && a)) || (not (u && a) && (n && (u && h)))) ≡ (n && (u && (a || h)))
@@ -60,14 +58,6 @@ or_under true false a h = refl
 or_under false true true h = refl
 or_under false true false h = refl
 or_under false false a h = refl
-
-or_none : (b : Bool) → b ≡ (b || false)
-or_none true = refl
-or_none false = refl
-
-or_joined : (a b c : Bool) → ((a || b) || c) ≡ (a || (b || c))
-or_joined true b c = refl
-or_joined false b c = refl
 
 -- ---- the upload of a name and a print
 
@@ -253,7 +243,7 @@ module _ (t : Tables) (up : Rises t.uploads) (apart : IsAscending (λ x y. sign_
     either_goes w =
         ap (λ b. ends_with away t.uploads w || b) (list_any-filter (λ r. nat_eq r.0 w.1.upload && goes x.1.name print_here r) (λ r. not (ends away r)) t.uploads)
         ∙ sym (any_or (λ r. nat_eq r.0 w.1.upload && ends away r) (λ r. not (ends away r) && (nat_eq r.0 w.1.upload && goes x.1.name print_here r)) t.uploads)
-        ∙ any_same (λ r. (nat_eq r.0 w.1.upload && ends away r) || (not (ends away r) && (nat_eq r.0 w.1.upload && goes x.1.name print_here r)))
+        ∙ same_any (λ r. (nat_eq r.0 w.1.upload && ends away r) || (not (ends away r) && (nat_eq r.0 w.1.upload && goes x.1.name print_here r)))
         (λ r. nat_eq r.0 w.1.upload && ends (more away x) r)
         (λ r. or_under (nat_eq r.0 w.1.upload) (not (has_place r.1)) (away r.1.name r.1.print) (had t x r.1.name r.1.print)) t.uploads
 
@@ -266,7 +256,7 @@ module _ (t : Tables) (up : Rises t.uploads) (apart : IsAscending (λ x y. sign_
         ∙ moved us (more away x) ws
         ∙ ap (turned_off (more away x))
         (without_twice (ends_with away t.uploads) (goes_with x.1.name print_here us) (ends_with (more away x) t.uploads)
-        (λ w. neither (ends_with away t.uploads w) (goes_with x.1.name print_here us w) ∙ ap not (either_goes w)) t.wants)
+        (λ w. (sym (not_either (ends_with away t.uploads w) (goes_with x.1.name print_here us w))) ∙ ap not (either_goes w)) t.wants)
 
     one_gone : (left : Numbered ArrivalRow) → IsPrinted x → with_gone x (away_rows t away left) ≡ away_rows t (more away x) (without (λ r. nat_eq r.0 x.0) left)
     unfolding with_gone
@@ -283,11 +273,11 @@ module _ (t : Tables) (up : Rises t.uploads) (apart : IsAscending (λ x y. sign_
   all_gone : (gone : Numbered ArrivalRow) (away : Away) (left : Numbered ArrivalRow) → AllByRecursion IsPrinted gone
       → fold (λ now x. with_gone x now) (away_rows t away left) gone
       ≡ away_rows t (λ name print. away name print || list_any (λ x. had t x name print) gone) (without_each left gone)
-  all_gone [] away left h = λ i. away_rows t (λ name print. or_none (away name print) i) left
+  all_gone [] away left h = λ i. away_rows t (λ name print. (sym (or-false (away name print))) i) left
   all_gone (x ∷ gone) away left h =
       ap (λ s. fold (λ now y. with_gone y now) s gone) (one_gone away x left h.0)
       ∙ all_gone gone (more away x) (without (λ r. nat_eq r.0 x.0) left) h.1
-      ∙ (λ i. away_rows t (λ name print. or_joined (away name print) (had t x name print) (list_any (λ y. had t y name print) gone) i) (without_each (without (λ r. nat_eq r.0 x.0) left) gone))
+      ∙ (λ i. away_rows t (λ name print. or_assoc (away name print) (had t x name print) (list_any (λ y. had t y name print) gone) i) (without_each (without (λ r. nat_eq r.0 x.0) left) gone))
 
   abbrev nothing : Away
   nothing = λ name print. false

@@ -3,8 +3,8 @@
 ghost use Rattle.std.specs.Prelude.{◌≡◌, ℕ, List};
 ghost use Rattle.rules.specs.Values.{ConfigValue};
 ghost use Rattle.suites.specs.Shelves.{ShelvesValue};
-ghost use Rattle.keep.specs.Book.{at_moment, span};
-ghost use Rattle.keep.specs.declared.change.Judgement.{Judgement};
+ghost use Rattle.book.specs.Book.{at_moment, span};
+ghost use Rattle.book.specs.declared.change.Judgement.{Judgement};
 ghost use Rattle.tables.specs.Rows.{Tables};
 ghost use Rattle.tables_meaning.specs.Cleaning.{cleaned, with_cleaned};
 ghost use Rattle.tables_meaning.specs.Kept.{AreNumbered, IsBook, book_in};

@@ -1,7 +1,7 @@
 //! Whether what has arrived still counts.
 
 ghost use Rattle.std.specs.Prelude.{if◌then◌else◌, ◌≡◌, ◌≤◌, false, Some, IfOk};
-ghost use Rattle.keep.specs.Book.{span};
+ghost use Rattle.book.specs.Book.{span};
 ghost use Rattle.tables_bodies.specs.Counting.{arrival_counts};
 ghost use Rattle.tables_counting.specs.Moments.{found_current, is_had, still_counts};
 ghost use Rattle.tables.specs.Calls.{CommitsNoRows, CommitsNothingOfOurs, ReadFails, Reads};

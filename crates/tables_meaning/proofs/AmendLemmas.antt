@@ -1,5 +1,5 @@
 -- How the parts of a change join inside their transaction.
-use Rattle.std.proofs.Common.{◌≡◌, inl, inr, ℕ, ◌+◌, ◌<◌, ◌≤◌, Bool, true, false, if◌then◌else◌, List, [], ◌∷◌, ◌++◌, find, take, length, get_or, fold, All, Option, Some, None, is_some, Result, Ok, Err, IfErr, OnErr, OnOk, IsTrue, refl, sym, ap, subst, ◌∙◌, arith}
+use Rattle.std.proofs.Common.{◌≡◌, inl, inr, ℕ, ◌+◌, ◌<◌, ◌≤◌, true, false, if◌then◌else◌, List, [], ◌∷◌, ◌++◌, find, take, length, get_or, fold, All, Option, Some, None, is_some, Result, Ok, Err, IfErr, OnErr, OnOk, IsTrue, refl, sym, ap, subst, ◌∙◌, arith}
 use Rattle.std.specs.List.{enumerate_from, list_any}
 use Rattle.std.specs.Option.{option_map_or}
 use Rattle.std.proofs.lemmas.List.{take_all, take_more, get_or-map, length-map}
@@ -21,9 +21,9 @@ use Rattle.suites.specs.declared.item.Item as shelf
 use Rattle.suites.specs.declared.item.PoolFile.{PoolFile}
 use Rattle.suites.specs.declared.key.ShelfKey.{ShelfKey}
 use Rattle.suites.specs.declared.plan.Plan.{Plan}
-use Rattle.keep.specs.declared.change.Change.{Change}
-use Rattle.keep.specs.declared.change.Judgement.{Judgement}
-use Rattle.keep.specs.declared.change.Step.{Step}
+use Rattle.book.specs.declared.change.Change.{Change}
+use Rattle.book.specs.declared.change.Judgement.{Judgement}
+use Rattle.book.specs.declared.change.Step.{Step}
 use Rattle.tables.specs.Bodies.{body_with}
 use Rattle.tables.specs.Files.{without_file}
 use Rattle.tables.specs.Items.{without_item}
@@ -36,7 +36,7 @@ use Rattle.tables.specs.declared.rows.Ref.{Ref}
 use Rattle.tables.specs.declared.rows.UploadRow.{UploadRow}
 use Rattle.tables.specs.declared.rows.ItemRow.{ItemRow}
 use Rattle.tables.proofs.TransactionLemmas.{keeps_if_changed, keeps_if_undone, keeps_then}
-use Rattle.tables_meaning.specs.Kept.{is_on, item_row, refs_for}
+use Rattle.tables_meaning.specs.Kept.{is_on, item_row, refs_for, ref_for}
 use Rattle.tables_meaning.specs.Making.{judged_by, takes_file, with_change, with_judged, with_new_dates, with_new_texts, with_plan, with_pooled, with_refs, with_shown, with_step, with_steps, with_written, without_shown}
 use Rattle.tables_meaning.specs.Sweeping.{swept}
 use Rattle.tables_meaning.specs.Amending.{HasBodies, Makes}
@@ -81,12 +81,6 @@ whatever_ok (Err e) h = tt
 pub err_then : {X E P Q : Type 0} (r : Result X E) → OnErr r P → (P → Q) → OnErr r Q
 err_then (Ok x) h f = tt
 err_then (Err e) h f = f h
-
-pub chosen_then : {X : Type 0} (x y : X) (b : Bool) → b ≡ true → x ≡ (if b then x else y)
-chosen_then x y b is = rw is refl
-
-pub chosen_else : {X : Type 0} (x y : X) (b : Bool) → b ≡ false → y ≡ (if b then x else y)
-chosen_else x y b is = rw is refl
 
 pub keeps_none : (a : State) → KeepsCommit a a
 keeps_none a = record { was_open = λ up. up; committed = λ _. refl }
@@ -137,21 +131,18 @@ pooled_as f t o is = ap (λ o. option_map_or (λ body. with_file (record { path 
 
 -- ---- numbered lists
 
-abbrev pub numbered_ref : ℕ → ℕ × PoolFile → Ref
-numbered_ref id f = record { item = id; number = f.0; path = f.1.path; print = f.1.print }
-
 pub length_refs : (id : ℕ) (item : shelf.Item) → length (refs_for id item) ≡ length item.files
 unfolding refs_for
-length_refs id item = length-map (enumerate_from 1 item.files) (numbered_ref id) ∙ length-enumerate_from 1 item.files
+length_refs id item = length-map (enumerate_from 1 item.files) (ref_for id) ∙ length-enumerate_from 1 item.files
 
 pub numbered_at : {X : Type 0} (n : ℕ) (xs : List X) (i number : ℕ) (x : X) → i < length xs → x ≡ get_or xs i x → number ≡ n + i → (d : ℕ) → (number, x) ≡ get_or (enumerate_from n xs) i (d, x)
 numbered_at n xs i number x within is place d = ap (λ m. (m, x)) place ∙ ap (λ y. (n + i, y)) is ∙ sym (get_or-enumerate_from n xs i (d, x) within)
 
-pub ref_at : (id : ℕ) (item : shelf.Item) (i number : ℕ) (f : PoolFile) (r : Ref) → i < length item.files → f ≡ get_or item.files i f → number ≡ 1 + i → r ≡ numbered_ref id (number, f) → r ≡ get_or (refs_for id item) i r
+pub ref_at : (id : ℕ) (item : shelf.Item) (i number : ℕ) (f : PoolFile) (r : Ref) → i < length item.files → f ≡ get_or item.files i f → number ≡ 1 + i → r ≡ ref_for id (number, f) → r ≡ get_or (refs_for id item) i r
 unfolding refs_for
 ref_at id item i number f r within is place are =
-    are ∙ ap (numbered_ref id) (numbered_at 1 item.files i number f within is place 0)
-    ∙ sym (get_or-map (numbered_ref id) (enumerate_from 1 item.files) i (0, f) r (omega (arith, length-enumerate_from 1 item.files, within)))
+    are ∙ ap (ref_for id) (numbered_at 1 item.files i number f within is place 0)
+    ∙ sym (get_or-map (ref_for id) (enumerate_from 1 item.files) i (0, f) r (omega (arith, length-enumerate_from 1 item.files, within)))
 
 -- ---- steps
 

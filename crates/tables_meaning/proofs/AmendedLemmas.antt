@@ -6,15 +6,16 @@ use Rattle.std.specs.FinMap.{get}
 use Rattle.std.specs.List.{enumerate_from, flat_map, list_any, zip}
 use Rattle.std.specs.Option.{option_and_then, option_map, option_or}
 use Rattle.std.specs.Prelude.{All, Contains, IsTrue, nat_eq}
-use Rattle.keep.specs.Book.{Book, amended, dates_past, files_showing, judgements, latest, shown_past, stored_body}
-use Rattle.keep.specs.Keeping.{AreRenewed, HasEachBody}
-use Rattle.keep.specs.Scan.{some_touches}
-use Rattle.keep.specs.declared.arrival.Arrival.{Arrival}
-use Rattle.keep.specs.declared.change.Change.{Change}
-use Rattle.keep.specs.declared.change.IndexText.{IndexText}
-use Rattle.keep.specs.declared.change.Judgement.{Judgement}
-use Rattle.keep.specs.declared.change.Step.{Step}
-use Rattle.keep.proofs.Prints.{same_print-Decides}
+use Rattle.book.specs.Book.{Book, amended, dates_past, files_showing, judgements, latest, shown_past, stored_body}
+use Rattle.book.specs.Keeping.{AreRenewed, HasEachBody}
+use Rattle.book.specs.Scan.{some_touches}
+use Rattle.book.specs.declared.arrival.Arrival.{Arrival}
+use Rattle.book.specs.declared.change.Change.{Change}
+use Rattle.book.specs.declared.change.IndexText.{IndexText}
+use Rattle.book.specs.declared.change.Judgement.{Judgement}
+use Rattle.book.specs.declared.change.Step.{Step}
+use Rattle.book.proofs.Prints.{same_print-Decides}
+use Rattle.book.proofs.Finds.{found_in, found_passes}
 use Rattle.rules.specs.Configuration.{config_in}
 use Rattle.rules.specs.Values.{ConfigValue}
 use Rattle.rules.specs.declared.suite.Suite.{Suite}
@@ -33,14 +34,13 @@ use Rattle.tables.specs.declared.rows.Date.{Date}
 use Rattle.tables.specs.declared.rows.File.{File}
 use Rattle.tables.specs.declared.rows.TextRow.{TextRow}
 use Rattle.tables.specs.declared.rows.Piece.{Piece}
-use Rattle.texts.specs.Indices.{all_texts}
+use Rattle.indices.specs.Indices.{all_texts}
 use Rattle.tables_meaning.specs.Kept.{AreArrivals, AreFiles, AreItems, AreSigned, AreStored, AreUploads, IsBook, arrival_in, arrivals_in, book_in, bytes_of, date_row, files_in, has_body, pieces_among, print_at, wants_in}
 use Rattle.tables_meaning.specs.Making.{with_new_dates, with_new_texts}
 use Rattle.tables_meaning.proofs.BodyLemmas.{are_stored}
 use Rattle.tables_meaning.proofs.DateLemmas.{in_range_past, length_past, renewed_dates}
-use Rattle.texts.proofs.Paths.{config_codenames}
+use Rattle.indices.proofs.Paths.{config_codenames}
 use Rattle.tables_meaning.proofs.PathLemmas.{config_paths}
-use Rattle.tables_meaning.proofs.RowLists.{found_passes}
 use Rattle.tables_meaning.proofs.SweptLemmas.{IsUnswept}
 use Rattle.tables_meaning.proofs.TextLemmas.{entry_of, renewed_texts}
 
@@ -54,14 +54,6 @@ found {X} p (x ∷ xs) h = by_case (p x) refl h (found p xs)
         → (y : X) × Contains (x ∷ xs) y × (p y ≡ true) × (cond b (Some x) (find p xs) ≡ Some y)
     by_case true e any more = (x, here x xs, e, refl)
     by_case false e any more = let rest = more any in (rest.0, there x rest.0 xs rest.1, rest.2, rest.3)
-
-pub found_in : {X : Type 0} (p : X → Bool) (xs : List X) (x : X) → find p xs ≡ Some x → Contains xs x
-found_in p [] x h = cc
-found_in p (y ∷ ys) x h = by_case (p y) h (found_in p ys x)
-  where
-    by_case : (b : Bool) → cond b (Some y) (find p ys) ≡ Some x → (find p ys ≡ Some x → Contains ys x) → Contains (y ∷ ys) x
-    by_case true e more = let same : y ≡ x = cc in subst (λ z. Contains (y ∷ ys) z) same (here y ys)
-    by_case false e more = there y x ys (more e)
 
 -- ---- bodies are distinguished by their prints
 

@@ -10,14 +10,17 @@ use Rattle.std.proofs.lemmas.List.Elements.{All-contains, All-map, All-push, All
 use Rattle.std.proofs.lemmas.List.Folds.{list_any-append, map_fixed}
 use Rattle.std.proofs.lemmas.List.Quantifiers.{all_pairs_push}
 use Rattle.std.proofs.lemmas.Slice.Eq.{bytes_eq-Decides}
+use Rattle.std.proofs.Math.Bool.{and_comm}
 use Rattle.sqlite_keyed.proofs.ListLemmas.{map-map}
 use Rattle.sums.specs.Prints.{print as print_of, same_print}
 use Rattle.sums.specs.declared.entries.Entry.{Entry}
 use Rattle.sums.specs.declared.print.Print.{Print}
-use Rattle.keep.specs.Book.{at_latest, counts, counts_since, current, has_arrival, is_body_of, is_same_pair, is_there, latest, with_arrival}
-use Rattle.keep.specs.Keeping.{IsDeliverable}
-use Rattle.keep.specs.declared.arrival.Arrival.{Arrival}
-use Rattle.keep.proofs.Finds.{is_some_of_find}
+use Rattle.sums.proofs.Members.{any_none, any_true, contains_map}
+use Rattle.sums.proofs.Words.{list_any-map}
+use Rattle.book.specs.Book.{at_latest, counts, counts_since, current, has_arrival, is_body_of, is_same_pair, is_there, latest, with_arrival}
+use Rattle.book.specs.Keeping.{IsDeliverable}
+use Rattle.book.specs.declared.arrival.Arrival.{Arrival}
+use Rattle.book.proofs.Finds.{is_some_of_find}
 use Rattle.tables.specs.Arrivals.{is_arrival, with_moment}
 use Rattle.tables.specs.Bodies.{body_with}
 use Rattle.tables.specs.Rows.{Tables, Numbered, Rises, added, next_in, rows_of, with_want, with_upload}
@@ -28,24 +31,19 @@ use Rattle.tables.specs.declared.rows.ArrivalRow.{ArrivalRow}
 use Rattle.tables.specs.declared.rows.BodyRow.{BodyRow}
 use Rattle.tables.specs.declared.rows.UploadRow.{UploadRow}
 use Rattle.tables.specs.declared.rows.Want.{Want}
+use Rattle.suites.proofs.ListTests.{list_any-filter}
+use Rattle.indices.proofs.Pairs.{pairs_unmap, same_map_over}
 use Rattle.tables_meaning.specs.Cleaning.{counts_row}
 use Rattle.tables_meaning.specs.Kept.{AreArrivals, AreBodies, AreNumbered, AreStored, arrival_in, arrivals_in, bytes_of, has_body, is_used, print_at}
 use Rattle.tables_meaning.specs.Making.{is_here, number_with, with_arrived, with_bytes, with_delivered, with_requested, with_wants}
-use Rattle.tables_meaning.proofs.BodyLemmas.{HasBody, Stores, all_if, any_false, any_with, apart_same, are_stored, arrived_used, body_found, by_number, found, has_body_if, its_print, list_any-map, map_alike, none_found, of_no_print, row_of_found, rows_added, same_number, same_row, stores, used_on}
-use Rattle.keep.proofs.Arrivals.{any_same}
-use Rattle.tables_meaning.proofs.Searches.{list_any-filter}
+use Rattle.tables_meaning.proofs.BodyLemmas.{HasBody, Stores, all_if, apart_same, are_stored, arrived_used, body_found, by_number, found, has_body_if, its_print, none_found, of_no_print, row_of_found, rows_added, same_number, same_row, stores, used_on}
+use Rattle.book.proofs.Arrivals.{any_same}
 
 -- ---- lists
 
 -- what holds of each image holds of each element
 pub all_unmapped : {X Y : Type 0} (P : X → Type 0) (f : Y → X) (ys : List Y) → All P (map f ys) → All (λ y. P (f y)) ys
 all_unmapped P f ys h k d lt = subst P (get_or-map f ys k d (f d) lt) (h k (f d) (omega (arith, length-map ys f)))
-
-pairs_unmapped : {X Y : Type 0} (R : X → X → Type 0) (f : Y → X) (ys : List Y) → AllPairs R (map f ys) → AllPairs (λ y z. R (f y) (f z)) ys
-pairs_unmapped R f ys h i j d lt within =
-    let earlier : i < length ys = omega arith in
-    subst (λ x. R x (f (get_or ys j d))) (get_or-map f ys i d (f d) earlier)
-    (subst (λ x. R (get_or (map f ys) i (f d)) x) (get_or-map f ys j d (f d) within) (h i j (f d) lt (omega (arith, length-map ys f))))
 
 pairs_mapped : {X Y : Type 0} (R : X → X → Type 0) (f : Y → X) (ys : List Y) → AllPairs (λ y z. R (f y) (f z)) ys → AllPairs R (map f ys)
 pairs_mapped R f [] h i j d lt within = absurd (omega arith)
@@ -54,9 +52,6 @@ pairs_mapped R f (y ∷ ys) h i j d lt within =
     let early : i < length (y ∷ ys) = omega arith in
     subst (λ x. R x (get_or (map f (y ∷ ys)) j d)) (sym (get_or-map f (y ∷ ys) i y d early))
     (subst (λ x. R (f (get_or (y ∷ ys) i y)) x) (sym (get_or-map f (y ∷ ys) j y d late)) (h i j y lt late))
-
-contains_mapped : {X Y : Type 0} (f : Y → X) (ys : List Y) (y : Y) → Contains ys y → Contains (map f ys) (f y)
-contains_mapped f ys y h = (h.0, omega (arith, h.1, length-map ys f), get_or-map f ys h.0 y (f y) h.1 ∙ ap f h.2)
 
 -- ---- the row of an arrival, by name and body
 
@@ -80,13 +75,14 @@ same_pair t name bytes moment id h x is =
     (λ s. (sym s.0, sym (ap (bytes_of t) s.1 ∙ h.are)))
     (Decides-and (bytes_eq name x.name) (bytes_eq bytes (bytes_of t x.body)) (bytes_eq-Decides name x.name) (bytes_eq-Decides bytes (bytes_of t x.body))))
 
--- ---- what counts
+-- two arrivals of one pair have the same name and body
+pub alike : (name : List ℕ) (id : ℕ) (a b : ArrivalRow) → is_arrival name id a ≡ true → is_arrival name id b ≡ true → is_arrival a.name a.body b ≡ true
+alike name id a b p q =
+    let first = (Decides-and (bytes_eq a.name name) (nat_eq a.body id) (bytes_eq-Decides a.name name) (Decides-eqb a.body id)).0 p in
+    let second = (Decides-and (bytes_eq b.name name) (nat_eq b.body id) (bytes_eq-Decides b.name name) (Decides-eqb b.body id)).0 q in
+    (Decides-and (bytes_eq b.name a.name) (nat_eq b.body a.body) (bytes_eq-Decides b.name a.name) (Decides-eqb b.body a.body)).1 (second.0 ∙ sym first.0, second.1 ∙ sym first.1)
 
-turned : (a b : Bool) → (a && b) ≡ (b && a)
-turned true true = refl
-turned true false = refl
-turned false true = refl
-turned false false = refl
+-- ---- what counts
 
 -- a row counts exactly if its arrival does
 pub counts_as : (t : Tables) (seconds : Option ℕ) (at : ℕ) (a : ArrivalRow) → counts_row seconds at a ≡ counts seconds at (arrival_in t a)
@@ -122,17 +118,17 @@ module _ (t : Tables) (up : Rises t.arrivals) (h : AreArrivals t) (name bytes : 
   unfolding has_arrival arrivals_in
   is_known =
       any_same is_it (λ x. is_same_pair it (arrival_in t x.1)) t.arrivals tells
-      ∙ sym (list_any-map (λ a. is_same_pair it (arrival_in t a)) (λ x. x.1) t.arrivals)
-      ∙ sym (list_any-map (is_same_pair it) (arrival_in t) (rows_of t.arrivals))
+      ∙ sym (list_any-map (λ x. x.1) (λ a. is_same_pair it (arrival_in t a)) t.arrivals)
+      ∙ sym (list_any-map (arrival_in t) (is_same_pair it) (rows_of t.arrivals))
 
   -- whether the arrival is known among those that count at a moment
   pub is_known_at : (seconds : Option ℕ) (at : ℕ) → list_any (λ x. is_it x && counts_row seconds at x.1) t.arrivals ≡ has_arrival (current seconds at (arrivals_in t)) it
   unfolding has_arrival arrivals_in current
   is_known_at seconds at =
       any_same (λ x. is_it x && counts_row seconds at x.1) (λ x. counts seconds at (arrival_in t x.1) && is_same_pair it (arrival_in t x.1)) t.arrivals
-      (λ x c. (λ i. tells x c i && counts_as t seconds at x.1 i) ∙ turned (is_same_pair it (arrival_in t x.1)) (counts seconds at (arrival_in t x.1)))
-      ∙ sym (list_any-map (λ a. counts seconds at (arrival_in t a) && is_same_pair it (arrival_in t a)) (λ x. x.1) t.arrivals)
-      ∙ sym (list_any-map (λ b. counts seconds at b && is_same_pair it b) (arrival_in t) (rows_of t.arrivals))
+      (λ x c. (λ i. tells x c i && counts_as t seconds at x.1 i) ∙ and_comm (is_same_pair it (arrival_in t x.1)) (counts seconds at (arrival_in t x.1)))
+      ∙ sym (list_any-map (λ x. x.1) (λ a. counts seconds at (arrival_in t a) && is_same_pair it (arrival_in t a)) t.arrivals)
+      ∙ sym (list_any-map (arrival_in t) (λ b. counts seconds at b && is_same_pair it b) (rows_of t.arrivals))
       ∙ sym (list_any-filter (is_same_pair it) (counts seconds at) (map (arrival_in t) (rows_of t.arrivals)))
 
   -- the row with the greater moment, if it is the one that arrives
@@ -151,14 +147,8 @@ module _ (t : Tables) (up : Rises t.arrivals) (h : AreArrivals t) (name bytes : 
   -- two rows that are the arrival are the same row
   one_row : (x y : ℕ × ArrivalRow) → Contains t.arrivals x → Contains t.arrivals y → is_it x ≡ true → is_it y ≡ true → x ≡ y
   one_row x y cx cy p q =
-      apart_same (λ (a b : ℕ × ArrivalRow). is_arrival a.1.name a.1.body b.1 ≡ false) t.arrivals (pairs_unmapped (λ a b. is_arrival a.name a.body b ≡ false) (λ x. x.1) t.arrivals h.apart) x y cx cy
-      (λ no. false≢true (sym no ∙ alike x.1 y.1 p q)) (λ no. false≢true (sym no ∙ alike y.1 x.1 q p))
-    where
-      alike : (a b : ArrivalRow) → is_arrival name id a ≡ true → is_arrival name id b ≡ true → is_arrival a.name a.body b ≡ true
-      alike a b p q =
-          let first = (Decides-and (bytes_eq a.name name) (nat_eq a.body id) (bytes_eq-Decides a.name name) (Decides-eqb a.body id)).0 p in
-          let second = (Decides-and (bytes_eq b.name name) (nat_eq b.body id) (bytes_eq-Decides b.name name) (Decides-eqb b.body id)).0 q in
-          (Decides-and (bytes_eq b.name a.name) (nat_eq b.body a.body) (bytes_eq-Decides b.name a.name) (Decides-eqb b.body a.body)).1 (second.0 ∙ sym first.0, second.1 ∙ sym first.1)
+      apart_same (λ (a b : ℕ × ArrivalRow). is_arrival a.1.name a.1.body b.1 ≡ false) t.arrivals (pairs_unmap (λ a b. is_arrival a.name a.body b ≡ false) (λ x. x.1) t.arrivals h.apart) x y cx cy
+      (λ no. false≢true (sym no ∙ alike name id x.1 y.1 p q)) (λ no. false≢true (sym no ∙ alike name id y.1 x.1 q p))
 
   -- the row of a number is the arrival exactly if it has the number of the one that was found
   by_rowid : (x y : ℕ × ArrivalRow) → Contains t.arrivals x → Contains t.arrivals y → is_it x ≡ true → nat_eq y.0 x.0 ≡ is_it y
@@ -193,7 +183,7 @@ module _ (t : Tables) (up : Rises t.arrivals) (h : AreArrivals t) (name bytes : 
       → (if later then with_moment x.0 moment t else t) ≡ known
   becomes x c p true e =
       ap (λ l. record t { arrivals = l })
-      (map_alike (λ y. if nat_eq y.0 x.0 then (y.0, record y.1 { moment = moment }) else y) settled t.arrivals (λ y cy. raised x y c cy p e))
+      (same_map_over (λ y. if nat_eq y.0 x.0 then (y.0, record y.1 { moment = moment }) else y) settled t.arrivals (λ y cy. raised x y c cy p e))
   becomes x c p false e = ap (λ l. record t { arrivals = l }) (sym (map_fixed settled t.arrivals (all_if (λ y. settled y ≡ y) t.arrivals (λ y cy. left x y c cy p e))))
 
   -- what the book shows of a row that is there
@@ -213,7 +203,7 @@ module _ (t : Tables) (up : Rises t.arrivals) (h : AreArrivals t) (name bytes : 
   arrivals_known =
       ap (map (arrival_in known)) (map-map (λ x. x.1) settled t.arrivals)
       ∙ map-map (arrival_in known) (λ x. (settled x).1) t.arrivals
-      ∙ map_alike (λ x. arrival_in known (settled x).1) (λ x. if is_same_pair it (arrival_in t x.1) then at_latest moment (arrival_in t x.1) else arrival_in t x.1) t.arrivals shown_known
+      ∙ same_map_over (λ x. arrival_in known (settled x).1) (λ x. if is_same_pair it (arrival_in t x.1) then at_latest moment (arrival_in t x.1) else arrival_in t x.1) t.arrivals shown_known
       ∙ sym (map-map (λ a. if is_same_pair it (arrival_in t a) then at_latest moment (arrival_in t a) else arrival_in t a) (λ x. x.1) t.arrivals)
       ∙ sym (map-map (λ b. if is_same_pair it b then at_latest moment b else b) (arrival_in t) (rows_of t.arrivals))
 
@@ -248,26 +238,26 @@ module _ (t : Tables) (up : Rises t.arrivals) (h : AreArrivals t) (name bytes : 
     unfolding with_arrival has_body
     if_known x e =
         let it_is = found is_it t.arrivals x e in
-        let any : has_arrival (arrivals_in t) it ≡ true = sym is_known ∙ any_with is_it t.arrivals x it_is.within it_is.passes in
+        let any : has_arrival (arrivals_in t) it ≡ true = sym is_known ∙ any_true is_it t.arrivals x it_is.within it_is.passes in
         record {
           arrivals = record {
             bodies = All-map (λ a. IsTrue (has_body known a.body)) (λ x. x.1) (map settled t.arrivals)
                 (All-map (λ (x : ℕ × ArrivalRow). IsTrue (has_body known x.1.body)) settled t.arrivals (all_unmapped (λ a. IsTrue (has_body t a.body)) (λ x. x.1) t.arrivals h.bodies));
             apart = pairs_mapped (λ a b. is_arrival a.name a.body b ≡ false) (λ x. x.1) (map settled t.arrivals)
-                (pairs_mapped (λ (x y : ℕ × ArrivalRow). is_arrival x.1.name x.1.body y.1 ≡ false) settled t.arrivals (pairs_unmapped (λ a b. is_arrival a.name a.body b ≡ false) (λ x. x.1) t.arrivals h.apart));
+                (pairs_mapped (λ (x y : ℕ × ArrivalRow). is_arrival x.1.name x.1.body y.1 ≡ false) settled t.arrivals (pairs_unmap (λ a b. is_arrival a.name a.body b ≡ false) (λ x. x.1) t.arrivals h.apart));
             deliverable = fit_known;
           };
           arrived = arrivals_known ∙ ap (λ (b : Bool). if b then map (λ b. if is_same_pair it b then at_latest moment b else b) (arrivals_in t) else arrivals_in t ++ it ∷ []) (sym any);
           uses_kept = λ n used. same_uses n ∙ used;
-          uses_it = same_uses id ∙ any_with (λ a. nat_eq a.body id) (rows_of t.arrivals) x.1 (contains_mapped (λ y. y.1) t.arrivals x it_is.within) (eq-eqb x.1.body id ((Decides-and (bytes_eq x.1.name name) (nat_eq x.1.body id) (bytes_eq-Decides x.1.name name) (Decides-eqb x.1.body id)).0 it_is.passes).1);
+          uses_it = same_uses id ∙ any_true (λ a. nat_eq a.body id) (rows_of t.arrivals) x.1 (contains_map (λ y. y.1) x t.arrivals it_is.within) (eq-eqb x.1.body id ((Decides-and (bytes_eq x.1.name name) (nat_eq x.1.body id) (bytes_eq-Decides x.1.name name) (Decides-eqb x.1.body id)).0 it_is.passes).1);
           only = refl;
         }
       where
         same_uses : (n : ℕ) → list_any (λ a. nat_eq a.body n) (rows_of known.arrivals) ≡ list_any (λ a. nat_eq a.body n) (rows_of t.arrivals)
         same_uses n =
-            list_any-map (λ a. nat_eq a.body n) (λ x. x.1) (map settled t.arrivals)
-            ∙ list_any-map (λ (x : ℕ × ArrivalRow). nat_eq x.1.body n) settled t.arrivals
-            ∙ sym (list_any-map (λ a. nat_eq a.body n) (λ x. x.1) t.arrivals)
+            list_any-map (λ x. x.1) (λ a. nat_eq a.body n) (map settled t.arrivals)
+            ∙ list_any-map settled (λ (x : ℕ × ArrivalRow). nat_eq x.1.body n) t.arrivals
+            ∙ sym (list_any-map (λ x. x.1) (λ a. nat_eq a.body n) t.arrivals)
 
     if_new : find is_it t.arrivals ≡ None → Arrives t name bytes moment id new
     unfolding with_arrival has_body
@@ -371,7 +361,7 @@ arrivals_stay : (t now : Tables) (bytes : List ℕ) (id : ℕ) → AreArrivals t
 unfolding arrivals_in
 arrivals_stay t now bytes id h st =
     ap (λ l. map (arrival_in now) (rows_of l)) st.arrivals_kept
-    ∙ map_alike (arrival_in now) (arrival_in t) (rows_of t.arrivals)
+    ∙ same_map_over (arrival_in now) (arrival_in t) (rows_of t.arrivals)
     (λ a c. ap (λ (l : List ℕ). record { name = a.name; body = l; moment = a.moment }) (st.bytes_kept a.body (All-contains (λ a. IsTrue (has_body t a.body)) (rows_of t.arrivals) a h.bodies c)))
 
 still_arrivals : (t now : Tables) (bytes : List ℕ) (id : ℕ) → AreArrivals t → Stores t now bytes id → AreArrivals now
@@ -459,12 +449,12 @@ pub here_is_there : (t : Tables) → AreBodies t → AreArrivals t → (e : Entr
 unfolding is_here is_there is_body_of arrivals_in
 here_is_there t b h e =
     by (body_with e.print t.bodies) refl
-    ∙ sym (list_any-map (is_body_of e) (arrival_in t) (rows_of t.arrivals))
+    ∙ sym (list_any-map (arrival_in t) (is_body_of e) (rows_of t.arrivals))
   where
     its : (a : ArrivalRow) → Contains (rows_of t.arrivals) a → has_body t a.body ≡ true
     its a c = All-contains (λ a. IsTrue (has_body t a.body)) (rows_of t.arrivals) a h.bodies c
 
     by : (o : Option ℕ) → body_with e.print t.bodies ≡ o
         → option_map_or (λ body. list_any (is_arrival e.name body) (rows_of t.arrivals)) o false ≡ list_any (λ a. bytes_eq a.name e.name && same_print (print_of (bytes_of t a.body)) e.print) (rows_of t.arrivals)
-    by None is = sym (any_false _ (rows_of t.arrivals) (λ a c. ap (λ q. bytes_eq a.name e.name && q) (of_no_print t (are_stored t b) e.print is a.body (its a c)) ∙ and_right (bytes_eq a.name e.name) false refl))
+    by None is = sym (any_none _ (rows_of t.arrivals) (λ a c. ap (λ q. bytes_eq a.name e.name && q) (of_no_print t (are_stored t b) e.print is a.body (its a c)) ∙ and_right (bytes_eq a.name e.name) false refl))
     by (Some found) is = any_same (is_arrival e.name found) _ (rows_of t.arrivals) (λ a c. ap (λ q. bytes_eq a.name e.name && q) (by_number t (are_stored t b) e.print found is a.body (its a c)))

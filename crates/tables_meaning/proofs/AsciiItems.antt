@@ -27,7 +27,7 @@ use Rattle.suites.specs.declared.key.ShelfKey.{ShelfKey}
 use Rattle.vers.specs.Syntax.{IsVersion, without_epoch}
 use Rattle.tables_meaning.proofs.AsciiLemmas.{AreAscii, architecture_ascii, ascii-append, file_name_ascii, package_ascii, without_epoch_ascii}
 use Rattle.tables_meaning.proofs.AsciiPaths.{pool_path_ascii}
-use Rattle.texts.proofs.Paths.{HasNames}
+use Rattle.indices.proofs.Paths.{HasNames}
 
 -- An item: its names, its version and the paths of its files are ASCII, and its paragraph is text.
 pub record IsPlainItem (item : Item) : Type 0 where

@@ -10,10 +10,10 @@ use Rattle.sqlite_keyed.proofs.ListLemmas.{all_map, all_weaker, all-append, all-
 use Rattle.sums.proofs.Members.{all_from, here, there}
 use Rattle.suites.specs.Pool.{directory_of, front_of, is_continuation, pool_path, prefix_of}
 use Rattle.suites.specs.Shelves.{ShelvesValue}
-use Rattle.texts.specs.Indices.{PathText, folder_texts, suite_path, suite_texts, texts_from}
-use Rattle.texts.specs.Release.{index_path, is_source, listed_entry, listed_texts}
+use Rattle.indices.specs.Indices.{PathText, folder_texts, suite_path, suite_texts, texts_from}
+use Rattle.indices.specs.Release.{index_path, is_source, listed_entry, listed_texts}
 use Rattle.tables_meaning.proofs.AsciiLemmas.{AreAscii, architecture_ascii, ascii-append, ascii-take, plain_ascii}
-use Rattle.texts.proofs.Paths.{HasNames, HoldsOfNames, config_names}
+use Rattle.indices.proofs.Paths.{HasNames, HoldsOfNames, config_names}
 
 ascii_names : HoldsOfNames AreAscii
 ascii_names = record { none = refl; plain = plain_ascii; architecture = architecture_ascii }

@@ -8,15 +8,16 @@ use Rattle.std.proofs.lemmas.Bool.Decides.{Decides-eqb, Decides-like, same_from_
 use Rattle.std.proofs.lemmas.List.{append-nil, append_assoc, drop-take, get_or_default, map-id, map_push, take-append-drop, take-take, take_all}
 use Rattle.std.proofs.lemmas.List.Concat.{flat_map-append}
 use Rattle.std.proofs.lemmas.List.Elements.{All-append, All-contains, All-contains_itself, All-from_recursion, All-map, All-push, All-same, All-weaker, Contains-append_left, Contains-append_right, Contains-get_or, Contains-push, Contains-push_cases, filter-append}
-use Rattle.std.proofs.lemmas.List.Folds.{Any-from_list_any, find-append, flat_map-map, list_any-append, list_any_at}
+use Rattle.std.proofs.lemmas.List.Folds.{Any-from_list_any, find-append, flat_map-map, list_any-append}
 use Rattle.std.proofs.lemmas.List.FromFn.{map-range_with_len_more}
 use Rattle.std.proofs.lemmas.List.Quantifiers.{all_pairs_push}
 use Rattle.std.proofs.lemmas.Option.{same_Some}
 use Rattle.sums.specs.Prints.{print as print_of, same_print}
 use Rattle.sums.specs.declared.print.Print.{Print}
-use Rattle.sums.proofs.Members.{here}
-use Rattle.keep.proofs.Finds.{is_some_of_find, none_of_map}
-use Rattle.keep.proofs.Prints.{same_print-Decides}
+use Rattle.sums.proofs.Members.{here, any_true}
+use Rattle.sums.proofs.Words.{list_any-map}
+use Rattle.book.proofs.Finds.{is_some_of_find, none_of_map}
+use Rattle.book.proofs.Prints.{same_print-Decides}
 use Rattle.tables.specs.Bodies.{body_with, has_print}
 use Rattle.tables.specs.Pieces.{is_of}
 use Rattle.tables.specs.Rows.{Tables, Numbered, Rises, added, first_number, next_in, rows_of, with_body, with_piece}
@@ -35,22 +36,6 @@ use Rattle.tables_meaning.proofs.NumberOrders.{pieces_in_order}
 pub there : {X : Type 0} (x : X) (xs : List X) (y : X) → Contains xs y → Contains (x ∷ xs) y
 there x xs y h = Contains-append_right (x ∷ []) xs y h
 
-pub any_with : {X : Type 0} (p : X → Bool) (xs : List X) (x : X) → Contains xs x → p x ≡ true → list_any p xs ≡ true
-any_with p xs x h passes = list_any_at p xs h.0 x h.1 (ap p h.2 ∙ passes)
-
-pub list_any-map : {X Y : Type 0} (p : Y → Bool) (f : X → Y) (xs : List X) → list_any p (map f xs) ≡ list_any (λ x. p (f x)) xs
-list_any-map p f [] = refl
-list_any-map p f (x ∷ xs) = ap (λ b. p (f x) || b) (list_any-map p f xs)
-
-pub any_false : {X : Type 0} (p : X → Bool) (xs : List X) → ((x : X) → Contains xs x → p x ≡ false) → list_any p xs ≡ false
-any_false p [] h = refl
-any_false p (x ∷ xs) h = ap₂ ◌||◌ (h x (here x xs)) (any_false p xs (λ y c. h y (there x xs y c)))
-
--- two functions that agree on the elements
-pub map_alike : {X Y : Type 0} (f g : X → Y) (xs : List X) → ((x : X) → Contains xs x → f x ≡ g x) → map f xs ≡ map g xs
-map_alike f g [] h = refl
-map_alike f g (x ∷ xs) h = ap₂ ◌∷◌ (h x (here x xs)) (map_alike f g xs (λ y c. h y (there x xs y c)))
-
 pub all_if : {X : Type 0} (P : X → Type 0) (xs : List X) → ((x : X) → Contains xs x → P x) → All P xs
 all_if P xs h = All-weaker (Contains xs) P h xs (All-contains_itself xs)
 
@@ -68,7 +53,7 @@ found p (y ∷ ys) x e =
     ] refl e
 
 pub none_found : {X : Type 0} (p : X → Bool) (xs : List X) → find p xs ≡ None → (x : X) → Contains xs x → p x ≡ false
-none_found p xs none x h = false_from_ne_true (p x) (λ passes. false≢true (ap is_some (sym none) ∙ is_some_of_find p xs ∙ any_with p xs x h passes))
+none_found p xs none x h = false_from_ne_true (p x) (λ passes. false≢true (ap is_some (sym none) ∙ is_some_of_find p xs ∙ any_true p xs x h passes))
 
 -- two elements that are not apart are the same, if the elements of the list are apart
 pub apart_same : {X : Type 0} (R : X → X → Type 0) (xs : List X) → AllPairs R xs → (x y : X) → Contains xs x → Contains xs y → ¬ (R x y) → ¬ (R y x) → x ≡ y
@@ -194,7 +179,7 @@ row_of_body t id h =
 
 pub has_body_if : (t : Tables) (id : ℕ) → RowOf t.bodies id → has_body t id ≡ true
 unfolding has_body
-has_body_if t id row = any_with (λ x. nat_eq x.0 id) t.bodies row.body row.within (eq-eqb row.body.0 id row.number)
+has_body_if t id row = any_true (λ x. nat_eq x.0 id) t.bodies row.body row.within (eq-eqb row.body.0 id row.number)
 
 pub row_of_found : {bodies : Numbered BodyRow} {id : ℕ} {p : Print} → HasBody bodies id p → RowOf bodies id
 row_of_found h = record { body = h.body; within = h.within; number = h.number }
@@ -281,7 +266,7 @@ pub used_by : (t : Tables) (id : ℕ) → is_used t id ≡ (arrival_has t id || 
 unfolding is_used
 used_by t id =
     list_any-append (λ n. nat_eq n id) (map (λ (a : ArrivalRow). a.body) (rows_of t.arrivals)) (map (λ (f : File). f.body) (rows_of t.files))
-    ∙ ap₂ ◌||◌ (list_any-map (λ n. nat_eq n id) (λ (a : ArrivalRow). a.body) (rows_of t.arrivals)) (list_any-map (λ n. nat_eq n id) (λ (f : File). f.body) (rows_of t.files))
+    ∙ ap₂ ◌||◌ (list_any-map (λ (a : ArrivalRow). a.body) (λ n. nat_eq n id) (rows_of t.arrivals)) (list_any-map (λ (f : File). f.body) (λ n. nat_eq n id) (rows_of t.files))
 
 pub arrived_used : (t : Tables) (id : ℕ) → arrival_has t id ≡ true → is_used t id ≡ true
 arrived_used t id e = used_by t id ∙ or_left (arrival_has t id) (file_has t id) e
@@ -291,10 +276,10 @@ filed_used t id e = used_by t id ∙ or_right (arrival_has t id) (file_has t id)
 
 -- the body of each arrival and of each file is used
 pub its_arrival : (t : Tables) (a : ArrivalRow) → Contains (rows_of t.arrivals) a → is_used t a.body ≡ true
-its_arrival t a c = arrived_used t a.body (any_with (λ b. nat_eq b.body a.body) (rows_of t.arrivals) a c (eq-eqb a.body a.body refl))
+its_arrival t a c = arrived_used t a.body (any_true (λ b. nat_eq b.body a.body) (rows_of t.arrivals) a c (eq-eqb a.body a.body refl))
 
 pub its_file : (t : Tables) (f : File) → Contains (rows_of t.files) f → is_used t f.body ≡ true
-its_file t f c = filed_used t f.body (any_with (λ g. nat_eq g.body f.body) (rows_of t.files) f c (eq-eqb f.body f.body refl))
+its_file t f c = filed_used t f.body (any_true (λ g. nat_eq g.body f.body) (rows_of t.files) f c (eq-eqb f.body f.body refl))
 
 -- what is used is still used if the arrivals and the files that have it stay
 pub used_on : (t after : Tables) (id : ℕ) → (arrival_has t id ≡ true → arrival_has after id ≡ true) → (file_has t id ≡ true → file_has after id ≡ true)
@@ -371,7 +356,7 @@ module _ (t : Tables) (up : Rises t.bodies) (h : AreStored t) (bytes : List ℕ)
   old_print : (n : ℕ) → has_body t n ≡ true → print_at now n ≡ print_at t n
   old_print n old =
       let row = row_of_body t n old in
-      let any : list_any (λ x. nat_eq x.0 n) t.bodies ≡ true = any_with (λ x. nat_eq x.0 n) t.bodies row.body row.within (eq-eqb row.body.0 n row.number) in
+      let any : list_any (λ x. nat_eq x.0 n) t.bodies ≡ true = any_true (λ x. nat_eq x.0 n) t.bodies row.body row.within (eq-eqb row.body.0 n row.number) in
       ap (option_and_then (λ x. x.1.print)) (find-append (λ x. nat_eq x.0 n) t.bodies ((next, new_body) ∷ []) ∙ first_stays _ _ (is_some_of_find (λ x. nat_eq x.0 n) t.bodies ∙ any))
     where
       first_stays : {X : Type 0} (o other : Option X) → is_some o ≡ true → option_or o other ≡ o

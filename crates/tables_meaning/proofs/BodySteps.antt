@@ -7,7 +7,7 @@ use Rattle.std.proofs.lemmas.List.FromFn.{map-range_with_len_more}
 use Rattle.sqlite.specs.State.{State, IsUnchanged, KeepsCommit, Survives}
 use Rattle.sqlite.proofs.StateLemmas.{survives_then}
 use Rattle.sums.specs.declared.print.Print.{Print}
-use Rattle.keep.proofs.Finds.{none_of_map}
+use Rattle.book.proofs.Finds.{none_of_map}
 use Rattle.tables.specs.Bodies.{body_with, has_print}
 use Rattle.tables.specs.Rows.{Tables, Holds, Changes, next_in, with_body, with_piece}
 use Rattle.tables.specs.Inside.{GoesOn}

@@ -9,8 +9,9 @@ use Rattle.sums.proofs.Members.{all_at}
 use Rattle.sums.specs.Prints.{print as print_of}
 use Rattle.rules.specs.Values.{ConfigValue}
 use Rattle.suites.specs.Shelves.{ShelvesValue, pool}
-use Rattle.keep.specs.Book.{Book, HasItsFiles}
-use Rattle.keep.specs.declared.change.Judgement.{Judgement}
+use Rattle.book.specs.Book.{Book, HasItsFiles}
+use Rattle.book.specs.declared.change.Judgement.{Judgement}
+use Rattle.book.proofs.Finds.{found_in}
 use Rattle.tables.specs.Files.{is_file_at}
 use Rattle.tables.specs.Rows.{Tables, rows_of, tables_in, tables_of}
 use Rattle.tables.specs.declared.rows.File.{File}
@@ -19,7 +20,7 @@ use Rattle.tables_meaning.specs.Finished.{finished}
 use Rattle.tables_meaning.specs.KeeperLemmas.{book_set}
 use Rattle.tables_meaning.specs.Kept.{IsBook, book_in, bytes_of, files_in, has_body, print_at}
 use Rattle.tables_meaning.specs.OneBook.{one_book}
-use Rattle.tables_meaning.proofs.AmendedLemmas.{found_in, print_is}
+use Rattle.tables_meaning.proofs.AmendedLemmas.{print_is}
 use Rattle.tables_meaning.proofs.BodyLemmas.{are_stored}
 
 module _ (t : Tables) (config : ConfigValue) (judged : List Judgement) (shown : ShelvesValue) (dates : List ℕ) (h : IsBook t config judged shown dates) where

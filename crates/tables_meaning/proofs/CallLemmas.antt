@@ -6,16 +6,16 @@ use Rattle.sqlite.specs.State.{State}
 use Rattle.sqlite.specs.Tree.{Trees}
 use Rattle.rules.specs.Values.{ConfigValue}
 use Rattle.suites.specs.Shelves.{ShelvesValue}
-use Rattle.keep.specs.Book.{Book, amended, dates_past, judgements, shown_past}
-use Rattle.keep.specs.Keeping.{HasEachBody}
-use Rattle.keep.specs.declared.change.Change.{Change}
-use Rattle.keep.specs.declared.change.Judgement.{Judgement}
+use Rattle.book.specs.Book.{Book, amended, dates_past, judgements, shown_past}
+use Rattle.book.specs.Keeping.{HasEachBody}
+use Rattle.book.specs.declared.change.Change.{Change}
+use Rattle.book.specs.declared.change.Judgement.{Judgement}
 use Rattle.tables.specs.Rows.{tables_in}
 use Rattle.tables_meaning.specs.Archives.{Amends, KeepsArchive, KeepsLeft, Turns, book_in_database}
 use Rattle.tables_meaning.specs.KeeperLemmas.{left_is}
 use Rattle.tables_meaning.specs.Shown.{shown_in}
 use Rattle.tables_meaning.specs.Transactions.{IsUndone}
-use Rattle.texts.proofs.Paths.{config_codenames}
+use Rattle.indices.proofs.Paths.{config_codenames}
 use Rattle.tables_meaning.specs.Finished.{finished}
 use Rattle.tables_meaning.proofs.FinishedLemmas.{shown_finished}
 use Rattle.tables_meaning.proofs.ShownLemmas.{shown_is}

@@ -10,10 +10,10 @@ use Rattle.tables.specs.Bodies.{body_with}
 use Rattle.tables.specs.Rows.{Numbered, Tables, rows_of}
 use Rattle.tables.specs.declared.rows.ArrivalRow.{ArrivalRow}
 use Rattle.tables.specs.declared.rows.BodyRow.{BodyRow}
-use Rattle.keep.specs.Book.{Book, at_moment, counts, current, dates_past, judgements, latest, shown_past, span}
-use Rattle.keep.specs.Keeping.{AreSteps, IsDeliverable, IsSound}
-use Rattle.keep.specs.declared.change.Change.{Change}
-use Rattle.keep.specs.declared.change.Judgement.{Judgement}
+use Rattle.book.specs.Book.{Book, at_moment, counts, current, dates_past, judgements, latest, shown_past, span}
+use Rattle.book.specs.Keeping.{AreSteps, IsDeliverable, IsSound}
+use Rattle.book.specs.declared.change.Change.{Change}
+use Rattle.book.specs.declared.change.Judgement.{Judgement}
 use Rattle.tables_meaning.specs.Kept.{AreNumbered, IsBook, arrivals_in, book_in, is_used}
 use Rattle.tables_meaning.specs.Making.{takes_file, with_change, with_steps, with_written}
 use Rattle.tables_meaning.specs.Planned.{IsStepped, KeepsChange}
@@ -21,7 +21,7 @@ use Rattle.tables_meaning.specs.Sweeping.{swept}
 use Rattle.tables_meaning.proofs.AmendedLemmas.{IsWritten, amended_archive}
 use Rattle.tables_meaning.proofs.BodyLemmas.{are_stored, used_on}
 use Rattle.tables_meaning.proofs.JudgedSteps.{judged_steps}
-use Rattle.texts.proofs.Paths.{config_codenames}
+use Rattle.indices.proofs.Paths.{config_codenames}
 use Rattle.tables_meaning.proofs.RemainingFiles.{remains_written}
 use Rattle.tables_meaning.proofs.SignedLemmas.{signed_after}
 use Rattle.tables_meaning.proofs.StepLemmas.{stepped_rows, sound_past}

@@ -3,7 +3,6 @@
 use Rattle.std.proofs.Common.{◌≡◌, ℕ, zero, suc, ◌+◌, ◌*◌, ◌%◌, ◌<◌, ◌≤◌, nat_eq, Bool, true, false, not, ◌&&◌, cond, List, [], ◌∷◌, ◌++◌, map, filter, fold, take, drop, length, All, Option, Some, None, is_some, unwrap_or, IsTrue, refl, sym, ap, ap₂, subst, ◌∙◌, arith, true≢false}
 use Rattle.std.specs.List.{AllByRecursion, flat_map, list_any, range_with_len}
 use Rattle.std.proofs.lemmas.Bool.{eq-eqb}
-use Rattle.std.proofs.lemmas.Bool.Decides.{nat_tests}
 use Rattle.std.proofs.lemmas.List.{length-append, take_all}
 use Rattle.std.proofs.lemmas.List.Elements.{All-contains, All-from_recursion, All-push, filter-append, recursion_from_All}
 use Rattle.std.proofs.lemmas.List.FromFn.{map-range_with_len_more}
@@ -13,10 +12,11 @@ use Rattle.sums.specs.declared.entries.Entry.{Entry}
 use Rattle.sums.specs.declared.print.Print.{Print}
 use Rattle.tables.specs.Bodies.{body_with, with_print}
 use Rattle.tables.specs.Pieces.{is_of}
-use Rattle.tables.specs.Rows.{Numbered, Rises, Tables, added, changed, next_in, rows_of, with_body, with_piece, without}
+use Rattle.tables.specs.Rows.{Numbered, Rises, Tables, added, changed, next_in, rows_of, with_body, with_piece, without, first_number}
 use Rattle.tables.specs.declared.rows.BodyRow.{BodyRow}
 use Rattle.tables.specs.declared.rows.Piece.{Piece}
 use Rattle.tables.proofs.BodiesLemmas.{begun_body}
+use Rattle.tables.proofs.RowLemmas.{below_next}
 use Rattle.tables_meaning.specs.Coming.{HasComing, bytes_so_far, coming_number, ended_number, with_begun, with_coming, with_ended, with_finished, with_next_piece, with_received, with_whole}
 use Rattle.tables_meaning.specs.Finished.{AreUnderWay, finished, is_unfinished, without_whole}
 use Rattle.tables_meaning.specs.Kept.{AreBodies, bytes_of, has_body, piece_at, piece_count, piece_order, pieces_for, pieces_of}
@@ -24,10 +24,10 @@ use Rattle.tables_meaning.specs.Making.{number_with, with_bytes, with_delivered,
 use Rattle.tables_meaning.specs.Taking.{listed_in}
 use Rattle.tables_meaning.proofs.BodyLemmas.{is_below_next, none_kept, only_pieces, own_pieces, pieces_joined, pieces_of_one, row_of_body, rows_with}
 use Rattle.tables_meaning.proofs.BodySteps.{bytes_new, bytes_there, number_new, number_there}
-use Rattle.tables_meaning.proofs.FinishedLemmas.{bodies_whole, body_finished, itself}
+use Rattle.tables_meaning.proofs.FinishedLemmas.{bodies_whole, body_finished, other_below}
 use Rattle.tables_meaning.proofs.NumberOrders.{pieces_in_order}
 use Rattle.tables_meaning.proofs.PassingLemmas.{Passes, beside, bodies_left, finished_passes, pieces_left}
-use Rattle.tables_meaning.proofs.Searches.{all_of_rows, below_next}
+use Rattle.tables_meaning.proofs.Searches.{all_of_rows}
 use Rattle.tables_meaning.proofs.UnderWayLemmas.{whole_under_way}
 
 -- Finished rows: the rowids of bodies rise, each body is whole, and each piece is one of a body.
@@ -59,9 +59,6 @@ pieces_are (p ∷ ps) t = pieces_are ps (with_piece p t)
 with_last : (ps : List Piece) (p : Piece) (t : Tables) → with_pieces (ps ++ p ∷ []) t ≡ with_piece p (with_pieces ps t)
 with_last [] p t = refl
 with_last (q ∷ ps) p t = with_last ps p (with_piece q t)
-
-below_other : (a b : ℕ) → a < b → nat_eq a b ≡ false
-below_other a b below = grind (arith, nat_tests)
 
 owner_below : (u : Tables) → Rises u.bodies → (id : ℕ) → has_body u id ≡ true → id < next_in u.bodies
 owner_below u up id there = let row = row_of_body u id there in let lt = is_below_next u.bodies up row.body row.within in omega (arith, row.number, lt)
@@ -112,11 +109,11 @@ module _ (n : ℕ) where
   and_false false = refl
 
   piece_stays : (xs : Numbered BodyRow) (p : Piece) → AllByRecursion (λ x. is_unfinished x ≡ false) xs → p.body < n → of_unfinished xs p ≡ false
-  piece_stays [] p whole below = rw (below_other p.body n below) refl
+  piece_stays [] p whole below = rw (other_below p.body n below) refl
   piece_stays (x ∷ xs) p whole below = rw (whole.0, and_false (is_of x.0 p)) (piece_stays xs p whole.1 below)
 
   piece_goes : (xs : Numbered BodyRow) (p : Piece) → AllByRecursion (λ x. is_unfinished x ≡ false) xs → p.body ≡ n → of_unfinished xs p ≡ true
-  piece_goes [] p whole is = rw (is, itself n) refl
+  piece_goes [] p whole is = rw (is, (eq-eqb n n refl)) refl
   piece_goes (x ∷ xs) p whole is = rw (whole.0, and_false (is_of x.0 p)) (piece_goes xs p whole.1 is)
 
 its_pieces : (id : ℕ) (bytes : List ℕ) → AllByRecursion (λ p. p.body ≡ id) (pieces_for id bytes)
@@ -138,8 +135,8 @@ begun_removed u bytes h =
     let ps = pieces_for n bytes in
     ap (without_whole n) (pieces_are ps (with_body begun_body u))
     ∙ taken_out u ps (λ x. nat_eq x.0 n) (is_of n)
-    (all_weaker (λ x. x.0 < n) (λ x. nat_eq x.0 n ≡ false) (λ x below. below_other x.0 n below) u.bodies (below_next u.bodies h.rise)) (itself n)
-    (all_weaker (λ p. p.1.body < n) (λ p. is_of n p.1 ≡ false) (λ p below. below_other p.1.body n below) u.pieces (pieces_below u h))
+    (all_weaker (λ x. x.0 < n) (λ x. nat_eq x.0 n ≡ false) (λ x below. other_below x.0 n below) u.bodies (below_next first_number u.bodies h.rise)) (eq-eqb n n refl)
+    (all_weaker (λ p. p.1.body < n) (λ p. is_of n p.1 ≡ false) (λ p below. other_below p.1.body n below) u.pieces (pieces_below u h))
     (all_weaker (λ p. p.body ≡ n) (λ p. is_of n p ≡ true) (λ p is. eq-eqb p.body n is) ps (its_pieces n bytes))
 
 -- a body that comes is no part of the finished rows
@@ -250,7 +247,7 @@ begun_pieces u bytes h =
     let n = next_in u.bodies in
     let ps = pieces_for n bytes in
     let free : filter (is_of n) (rows_of u.pieces) ≡ [] = none_kept (is_of n) (rows_of u.pieces)
-    (λ q c. below_other q.body n (owner_below u h.rise q.body (All-contains (λ q. IsTrue (has_body u q.body)) (rows_of u.pieces) q h.owned c))) in
+    (λ q c. other_below q.body n (owner_below u h.rise q.body (All-contains (λ q. IsTrue (has_body u q.body)) (rows_of u.pieces) q h.owned c))) in
     ap (sorted_by piece_order)
     (ap (λ (t : Tables). filter (is_of n) (rows_of t.pieces)) (only_pieces ps (with_body begun_body u))
     ∙ ap (filter (is_of n)) (rows_with ps u.pieces)
@@ -302,8 +299,8 @@ module _ (n : ℕ) (print : Print) where
 
   -- the last body gets the print, and no other
   set_last : (xs : Numbered BodyRow) → AllByRecursion (λ x. x.0 < n) xs → map set (xs ++ (n, begun_body) ∷ []) ≡ xs ++ (n, record { print = Some print }) ∷ []
-  set_last [] below = rw (itself n) refl
-  set_last (x ∷ xs) below = rw (below_other x.0 n below.0) (ap (λ l. x ∷ l) (set_last xs below.1))
+  set_last [] below = rw (eq-eqb n n refl) refl
+  set_last (x ∷ xs) below = rw (other_below x.0 n below.0) (ap (λ l. x ∷ l) (set_last xs below.1))
 
 begun_printed : (u : Tables) (bytes : List ℕ) (print : Print) → Rises u.bodies
     → with_print (next_in u.bodies) print (with_begun bytes u) ≡ with_pieces (pieces_for (next_in u.bodies) bytes) (with_body (record { print = Some print }) u)
@@ -313,7 +310,7 @@ begun_printed u bytes print up =
     let begun = with_body begun_body u in
     let after = with_pieces ps begun in
     ap (λ l. record after { bodies = changed (λ x. nat_eq x.0 n) (λ b. record b { print = Some print }) l }) (bodies_stay ps begun)
-    ∙ ap (λ l. record after { bodies = l }) (set_last n print u.bodies (below_next u.bodies up))
+    ∙ ap (λ l. record after { bodies = l }) (set_last n print u.bodies (below_next first_number u.bodies up))
     ∙ sym (pieces_apart ps begun (added u.bodies (record { print = Some print })))
 
 body_beside : (u : Tables) (bytes : List ℕ) (print : Print) → AreWhole u → finished u ≡ u → body_with print (with_coming bytes u).bodies ≡ body_with print u.bodies

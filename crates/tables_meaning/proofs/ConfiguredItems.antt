@@ -1,36 +1,27 @@
 -- The rows of items under another configuration: each is that of the shelf of the suite of its codename.
-use Rattle.std.proofs.Common.{◌≡◌, ◌≢◌, ◌<◌, ℕ, zero, suc, Bool, true, false, cond, List, [], ◌∷◌, find, length, slice_get, Option, Some, None, option_map, IsTrue, refl, sym, ap, subst, ◌∙◌, arith}
+use Rattle.std.proofs.Common.{◌≡◌, ◌≢◌, ◌<◌, ℕ, Bool, true, false, cond, List, [], ◌∷◌, find, length, slice_get, Option, Some, None, option_map, IsTrue, refl, sym, ap, subst, ◌∙◌}
 use Rattle.std.specs.Prelude.{AllPairs, Contains}
 use Rattle.std.proofs.Math.Logic.{∥∥₁_elim, ∥∥₁_map}
 use Rattle.std.specs.Option.{option_and_then, option_map_or}
 use Rattle.std.specs.FinMap.{get}
-use Rattle.std.proofs.lemmas.Option.{same_Some}
+use Rattle.std.proofs.lemmas.Option.{slice_get_within}
 use Rattle.rules.specs.declared.suite.Suite.{Suite}
 use Rattle.sums.proofs.Members.{all_at, all_from, any_true, here, there}
 use Rattle.suites.specs.Keys.{kind_number}
-use Rattle.suites.specs.Moved.{all_stay, moved, moved_entry, place_in}
+use Rattle.suites.specs.Moved.{all_stay, moved, place_in}
 use Rattle.suites.specs.Shelves.{ShelvesValue}
 use Rattle.suites.specs.declared.item.Item as shelf
 use Rattle.suites.specs.declared.key.ShelfKey.{ShelfKey}
 use Rattle.suites.proofs.FileMembers.{entry_shown, shown_entry}
-use Rattle.suites.proofs.MovedLemmas.{is_shown, same_place, was_shown, stays}
+use Rattle.suites.proofs.MovedLemmas.{is_shown, same_place, was_shown, stays, key_of, suite_there}
+use Rattle.suites.specs.Codenames.{codename_at}
 use Rattle.tables.specs.Items.{is_item}
 use Rattle.tables.specs.Rows.{Tables}
 use Rattle.tables.specs.declared.rows.ItemRow.{ItemRow}
-use Rattle.tables_meaning.specs.Kept.{AreItems, codename_at, is_on, refs_for, shown_in, shown_row}
+use Rattle.tables_meaning.specs.Kept.{AreItems, is_on, refs_for, shown_in, shown_row}
 use Rattle.rules.specs.Suites.{suite_named}
 use Rattle.tables_meaning.proofs.Searches.{some_found}
 use Rattle.tables_meaning.proofs.ShownLemmas.{item_parts, named_suite, suite_back}
-
-element : (suites : List Suite) (n : ℕ) → n < length suites → (s : Suite) × (slice_get suites n ≡ Some s)
-element [] n lt = absurd (omega arith)
-element (s ∷ ss) zero lt = (s, refl)
-element (s ∷ ss) (suc n) lt = element ss n (omega arith)
-
-pub below : (suites : List Suite) (n : ℕ) (s : Suite) → slice_get suites n ≡ Some s → n < length suites
-below [] n s e = cc
-below (x ∷ xs) zero s e = omega arith
-below (x ∷ xs) (suc n) s e = let more = below xs n s e in omega (arith, more)
 
 name_at : (suites : List Suite) (n : ℕ) (s : Suite) → slice_get suites n ≡ Some s → codename_at suites n ≡ s.codename
 name_at suites n s e = ap (λ o. option_map_or (λ (x : Suite). x.codename) o []) e
@@ -44,19 +35,7 @@ module _ (old new : List Suite) where
       by_case None is f = cc
       by_case (Some s) is f =
           let there = named_suite new s.codename k f in
-          (below old m s is, there.0, sym there.1 ∙ sym (name_at old m s is))
-
-  -- the key to which an entry moves, and what it was
-  goes : (e d : ShelfKey × shelf.Item) → moved_entry old new e ≡ Some d → (place_in old new e.0.suite ≡ Some d.0.suite) × (d ≡ (record e.0 { suite = d.0.suite }, e.1))
-  goes e d h = by_case (place_in old new e.0.suite) refl h
-    where
-      by_case : (o : Option ℕ) → place_in old new e.0.suite ≡ o → option_map (λ n. (record e.0 { suite = n }, e.1)) o ≡ Some d
-          → (place_in old new e.0.suite ≡ Some d.0.suite) × (d ≡ (record e.0 { suite = d.0.suite }, e.1))
-      by_case None is f = cc
-      by_case (Some n) is f =
-          let same : (record e.0 { suite = n }, e.1) ≡ d = same_Some (record e.0 { suite = n }, e.1) d f in
-          let at : n ≡ d.0.suite = ap (λ (x : ShelfKey × shelf.Item). x.0.suite) same in
-          (is ∙ ap Some at, sym same ∙ ap (λ m. (record e.0 { suite = m }, e.1)) at)
+          (slice_get_within old m s is, there.0, sym there.1 ∙ sym (name_at old m s is))
 
 module _ (t : Tables) (old new : List Suite) (apart : AllPairs (λ s r. s.codename ≢ r.codename) old) (other : AllPairs (λ s r. s.codename ≢ r.codename) new)
     (shown : ShelvesValue) (are : AreItems t old shown) (stay : all_stay old new shown ≡ true) where
@@ -71,7 +50,7 @@ module _ (t : Tables) (old new : List Suite) (apart : AllPairs (λ s r. s.codena
   back_there : (n m : ℕ) → n < length new → suite_named old (codename_at new n) ≡ Some m → place_in old new m ≡ Some n
   back_there n m lt e =
       let at = named_suite old (codename_at new n) m e in
-      let s = element old m at.0 in
+      let s = suite_there old m at.0 in
       let name : s.0.codename ≡ codename_at new n = sym (name_at old m s.0 s.1) ∙ sym at.1 in
       ap (option_and_then (λ (x : Suite). suite_named new x.codename)) s.1 ∙ ap (suite_named new) name ∙ suite_back new other n lt
 
@@ -86,7 +65,7 @@ module _ (t : Tables) (old new : List Suite) (apart : AllPairs (λ s r. s.codena
       by_case None was None is = refl
       by_case None was (Some x) is =
           let from = was_shown old new apart shown key x is in
-          let go = goes old new from.0 (key, x) from.2 in
+          let go = key_of old new apart shown from.0 (key, x) from.2 in
           let place : from.0.0.suite ≡ m = same_place old apart new from.0.0.suite m key.suite go.0 (back_there key.suite m lt e) in
           let key_is : key ≡ record from.0.0 { suite = key.suite } = ap (λ (z : ShelfKey × shelf.Item). z.0) go.1 in
           let whole : at_place key from.0.0.suite ≡ from.0.0 = ap (λ (z : ShelfKey). record z { suite = from.0.0.suite }) key_is in
@@ -102,7 +81,7 @@ module _ (t : Tables) (old new : List Suite) (apart : AllPairs (λ s r. s.codena
       by_case None is = refl
       by_case (Some x) is =
           let from = was_shown old new apart shown key x is in
-          let go = goes old new from.0 (key, x) from.2 in
+          let go = key_of old new apart shown from.0 (key, x) from.2 in
           let there = placed old new from.0.0.suite key.suite go.0 in
           let both : None ≡ Some from.0.0.suite = sym e ∙ ap (suite_named old) there.2 ∙ suite_back old apart from.0.0.suite there.0 in
           absurd cc
@@ -175,8 +154,8 @@ module _ (t : Tables) (old new : List Suite) (apart : AllPairs (λ s r. s.codena
   new_key x at key lt on =
       let item = standing_item x at key lt on in
       let d = stays old new apart shown stay (key, item.0) (entry_shown shown key item.0 item.1) in
-      let there = placed old new key.suite d.0.0.suite (goes old new (key, item.0) d.0 d.1).0 in
-      let moves : d.0.0 ≡ record key { suite = d.0.0.suite } = ap (λ (z : ShelfKey × shelf.Item). z.0) (goes old new (key, item.0) d.0 d.1).1 in (
+      let there = placed old new key.suite d.0.0.suite (key_of old new apart shown (key, item.0) d.0 d.1).0 in
+      let moves : d.0.0 ≡ record key { suite = d.0.0.suite } = ap (λ (z : ShelfKey × shelf.Item). z.0) (key_of old new apart shown (key, item.0) d.0 d.1).1 in (
         record key { suite = d.0.0.suite },
         there.1,
         subst (λ (name : List ℕ). IsTrue (is_item name (kind_number key.kind) key.«package» key.architecture x.1)) (sym there.2) on,
@@ -193,7 +172,7 @@ module _ (t : Tables) (old new : List Suite) (apart : AllPairs (λ s r. s.codena
       | None ↦ λ none. (let nowhere = none_on key none in let nothing = no_shelf key none in rw (nowhere, nothing) refl)
       | Some m ↦ λ is. on_new (All_there key) key m lt is (are.all (at_place key m) (named_suite old (codename_at new key.suite) m is).0)
     ] refl;
-    within = λ key item h. (let from = was_shown old new apart shown key item h in (placed old new from.0.0.suite key.suite (goes old new from.0 (key, item) from.2).0).1);
+    within = λ key item h. (let from = was_shown old new apart shown key item h in (placed old new from.0.0.suite key.suite (key_of old new apart shown from.0 (key, item) from.2).0).1);
     rows = all_from (λ (x : ℕ × ItemRow). ∥ ((k : ShelfKey) × (k.suite < length new) × IsTrue (is_on new k x)) ∥₁) t.items
         (λ x at. ∥∥₁_map (all_at (λ (y : ℕ × ItemRow). ∥ ((k : ShelfKey) × (k.suite < length old) × IsTrue (is_on old k y)) ∥₁) t.items x are.rows at) (λ w. new_key x at w.0 w.1 w.2));
     apart = are.apart;

@@ -2,15 +2,17 @@
 use Rattle.std.proofs.Common.{◌≡◌, ◌≢◌, ◌≤◌, ℕ, true, Ok, List, [], ◌∷◌, map, fold, length, sym, ap, subst, ◌∙◌}
 use Rattle.std.specs.Prelude.{All, AllPairs}
 use Rattle.std.specs.List.{zip}
+use Rattle.std.proofs.lemmas.List.{map-id}
+use Rattle.std.proofs.lemmas.Simd.{map-map}
 use Rattle.rules.specs.Configuration.{config_in}
 use Rattle.rules.specs.Values.{ConfigValue}
 use Rattle.suites.specs.Moved.{all_stay, moved}
 use Rattle.suites.specs.Shelves.{ShelvesValue}
 use Rattle.suites.proofs.MovedLemmas.{pool_moved, sound_moved, told_moved}
-use Rattle.texts.specs.Indices.{all_texts}
-use Rattle.keep.specs.Book.{latest}
-use Rattle.keep.specs.Configured.{reconfigured}
-use Rattle.keep.specs.declared.change.Judgement.{Judgement}
+use Rattle.indices.specs.Indices.{all_texts}
+use Rattle.book.specs.Book.{latest}
+use Rattle.book.specs.Configured.{reconfigured}
+use Rattle.book.specs.declared.change.Judgement.{Judgement}
 use Rattle.tables.specs.Metas.{with_configuration}
 use Rattle.sqlite.specs.Effect.{Database}
 use Rattle.tables.specs.Rows.{Holds, Numbered, Tables, added, changed, rows_of, tables_in}
@@ -21,10 +23,9 @@ use Rattle.tables_meaning.specs.Configuring.{Reconfigures, new_dates, new_texts,
 use Rattle.tables_meaning.specs.Finished.{AreUnderWay, finished}
 use Rattle.tables_meaning.specs.Founding.{with_texts}
 use Rattle.tables_meaning.specs.Kept.{AreArrivals, AreBodies, AreFiles, AreItems, AreUploads, IsBook, arrivals_in, book_in, bytes_of, date_row, files_in, has_body, is_used, wants_in}
-use Rattle.texts.proofs.Paths.{config_codenames}
+use Rattle.indices.proofs.Paths.{config_codenames}
 use Rattle.tables_meaning.proofs.ConfiguredItems.{items_moved}
-use Rattle.tables_meaning.proofs.FoundKept.{dates_are, rows_all, same_dates, same_pairs, text_row, texts_are}
-use Rattle.texts.proofs.Walk.{map_twice}
+use Rattle.tables_meaning.proofs.FoundKept.{dates_are, rows_all, same_pairs, text_row, texts_are}
 use Rattle.sqlite_keyed.proofs.ListLemmas.{IsPermutation-same}
 use Rattle.tables_meaning.proofs.UnderWayLemmas.{like_under_way}
 
@@ -107,8 +108,8 @@ module _ (t : Tables) (config other : ConfigValue) (judged : List Judgement) (sh
     texts =
         IsPermutation-same _ _
         (ap (map (λ x. (x.path, x.body))) (rows_all text_row (all_texts other now dates) [])
-        ∙ map_twice (λ x. (x.path, x.body)) text_row (all_texts other now dates) ∙ same_pairs (all_texts other now dates));
-    date_rows = IsPermutation-same _ _ (rows_all (λ d. d) (map date_row (zip other.suites dates)) [] ∙ same_dates (map date_row (zip other.suites dates)));
+        ∙ map-map (λ x. (x.path, x.body)) text_row (all_texts other now dates) ∙ same_pairs (all_texts other now dates));
+    date_rows = IsPermutation-same _ _ (rows_all (λ d. d) (map date_row (zip other.suites dates)) [] ∙ map-id (map date_row (zip other.suites dates)));
     dated = dated;
     in_range = in_range;
   }

@@ -4,7 +4,7 @@ use Rattle.std.specs.List.{zip}
 use Rattle.sqlite.specs.State.{State}
 use Rattle.rules.specs.Values.{ConfigValue}
 use Rattle.suites.specs.Shelves.{ShelvesValue}
-use Rattle.texts.specs.Indices.{all_texts}
+use Rattle.indices.specs.Indices.{all_texts}
 use Rattle.tables.specs.Dates.{without_dates}
 use Rattle.tables.specs.Metas.{with_configuration}
 use Rattle.tables.specs.Rows.{Changes, Tables}

@@ -3,11 +3,11 @@ use Rattle.std.proofs.Common.{◌≡◌, ◌≢◌, ◌≤◌, inl, inr, ℕ, �
 use Rattle.std.proofs.lemmas.Slice.Eq.{bytes_eq-Decides}
 use Rattle.std.specs.List.{enumerate_from, zip}
 use Rattle.std.specs.Prelude.{All, AllPairs, Contains}
-use Rattle.keep.specs.Book.{dates_past, latest}
-use Rattle.keep.specs.Scan.{some_touches}
-use Rattle.keep.specs.declared.change.IndexText.{IndexText}
-use Rattle.keep.specs.declared.change.Step.{Step}
-use Rattle.keep.proofs.Dates.{dated, dates_past-dated}
+use Rattle.book.specs.Book.{dates_past, latest}
+use Rattle.book.specs.Scan.{some_touches}
+use Rattle.book.specs.declared.change.IndexText.{IndexText}
+use Rattle.book.specs.declared.change.Step.{Step}
+use Rattle.book.proofs.Dates.{dated, dates_past-dated}
 use Rattle.rules.specs.declared.suite.Suite.{Suite}
 use Rattle.std.proofs.lemmas.List.Sorted.{IsPermutation-map}
 use Rattle.sqlite_keyed.proofs.ListLemmas.{map-map}
@@ -19,8 +19,8 @@ use Rattle.tables.specs.declared.rows.Date.{Date}
 use Rattle.tables_meaning.specs.Kept.{date_row}
 use Rattle.tables_meaning.specs.Making.{with_new_dates, with_new_texts}
 use Rattle.tables_meaning.proofs.Orders.{permuted_by}
-use Rattle.texts.proofs.Paths.{CodenamesDiffer}
-use Rattle.texts.proofs.Apart.{not_equal}
+use Rattle.indices.proofs.Paths.{CodenamesDiffer}
+use Rattle.indices.proofs.Apart.{not_equal}
 
 -- ---- rows of dates
 

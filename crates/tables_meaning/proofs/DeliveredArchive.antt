@@ -8,16 +8,16 @@ use Rattle.rules.specs.Values.{ConfigValue}
 use Rattle.sums.specs.Prints.{print as print_of}
 use Rattle.sums.specs.declared.entries.Entry.{Entry}
 use Rattle.suites.specs.Shelves.{ShelvesValue}
-use Rattle.keep.specs.Book.{latest, with_arrival, with_delivery}
+use Rattle.book.specs.Book.{latest, with_arrival, with_delivery}
 use Rattle.sums.specs.FileNames.{is_changes_name}
-use Rattle.keep.specs.Keeping.{IsDeliverable}
-use Rattle.keep.specs.declared.arrival.Arrival.{Arrival}
-use Rattle.keep.specs.declared.change.Judgement.{Judgement}
+use Rattle.book.specs.Keeping.{IsDeliverable}
+use Rattle.book.specs.declared.arrival.Arrival.{Arrival}
+use Rattle.book.specs.declared.change.Judgement.{Judgement}
 use Rattle.tables.specs.Bodies.{body_with}
 use Rattle.tables.specs.Files.{is_file_at}
 use Rattle.tables.specs.Rows.{Tables, rows_of}
 use Rattle.tables.specs.declared.rows.File.{File}
-use Rattle.texts.specs.Indices.{all_texts}
+use Rattle.indices.specs.Indices.{all_texts}
 use Rattle.tables_meaning.specs.Kept.{AreFiles, AreNumbered, IsBook, arrivals_in, book_in, bytes_of, date_row, files_in, has_body, print_at}
 use Rattle.tables_meaning.specs.Making.{with_delivered}
 use Rattle.tables_meaning.proofs.ArrivalLemmas.{delivered_bodies, here_is_there}

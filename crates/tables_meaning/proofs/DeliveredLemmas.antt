@@ -8,10 +8,10 @@ use Rattle.rules.specs.Values.{ConfigValue}
 use Rattle.sums.specs.Prints.{print as print_of}
 use Rattle.sums.specs.declared.entries.Entry.{Entry}
 use Rattle.suites.specs.Shelves.{ShelvesValue}
-use Rattle.keep.specs.Book.{current, has_arrival, latest, with_delivery}
+use Rattle.book.specs.Book.{current, has_arrival, latest, with_delivery}
 use Rattle.sums.specs.FileNames.{is_changes_name}
-use Rattle.keep.specs.Keeping.{IsDeliverable}
-use Rattle.keep.specs.declared.change.Judgement.{Judgement}
+use Rattle.book.specs.Keeping.{IsDeliverable}
+use Rattle.book.specs.declared.change.Judgement.{Judgement}
 use Rattle.sqlite.specs.Effect.{Database}
 use Rattle.tables.specs.Arrivals.{is_arrival}
 use Rattle.tables.specs.Bodies.{body_with}

@@ -5,7 +5,7 @@ use Rattle.std.specs.List.{AllByRecursion, AllPairs, cons_option, filter_map, li
 use Rattle.std.specs.Option.{option_and_then, option_map, option_map_or}
 use Rattle.std.specs.Result.{result_ok}
 use Rattle.std.specs.Ordering.{is_gt}
-use Rattle.std.proofs.lemmas.Bool.{false≢true}
+use Rattle.std.proofs.lemmas.Bool.{false≢true, and_parts}
 use Rattle.std.proofs.lemmas.Bool.Decides.{Decides-eqb}
 use Rattle.std.proofs.lemmas.List.Elements.{recursion_from_All}
 use Rattle.records.specs.Records.{changes_in}
@@ -15,11 +15,11 @@ use Rattle.sums.specs.Prints.{print as print_of, same_print}
 use Rattle.sums.specs.declared.entries.Entry.{Entry}
 use Rattle.sums.specs.declared.print.Print.{Print}
 use Rattle.suites.specs.Upload.{UploadValue, has_text}
-use Rattle.keep.specs.Book.{Book, Candidate, body_for, candidate_of, candidate_order, candidates, due, in_order, is_body_of, is_complete, is_judged, is_there, missing, put_in_order, unjudged, upload_of}
+use Rattle.book.specs.Book.{Book, Candidate, body_for, candidate_of, candidate_order, candidates, due, in_order, is_body_of, is_complete, is_judged, is_there, missing, put_in_order, unjudged, upload_of}
 use Rattle.sums.specs.FileNames.{is_changes_name}
-use Rattle.keep.specs.declared.arrival.Arrival.{Arrival}
-use Rattle.keep.proofs.Lists.{all_filter}
-use Rattle.keep.proofs.Prints.{same_print-Decides}
+use Rattle.book.specs.declared.arrival.Arrival.{Arrival}
+use Rattle.book.proofs.Lists.{all_filter}
+use Rattle.book.proofs.Prints.{same_print-Decides}
 use Rattle.tables.specs.Bodies.{body_with, has_print}
 use Rattle.tables.specs.Rows.{Tables, Numbered, Rises, rows_of}
 use Rattle.tables.specs.declared.rows.ArrivalRow.{ArrivalRow}
@@ -29,14 +29,6 @@ use Rattle.tables_meaning.specs.Kept.{AreArrivals, AreStored, AreUploads, arriva
 use Rattle.tables_meaning.specs.Reads.{bytes_with, due_in, missing_in, text_in, wanting_rows, upload_in, upload_with}
 use Rattle.tables_meaning.proofs.OrderLemmas.{unjudged_requests}
 use Rattle.tables_meaning.proofs.WaitingLemmas.{missing_in-wants, missing-wants, missing_wants}
-
-first_true : (a b : Bool) → a && b ≡ true → a ≡ true
-first_true true b e = refl
-first_true false b e = cc
-
-second_true : (a b : Bool) → a && b ≡ true → b ≡ true
-second_true true b e = e
-second_true false b e = cc
 
 -- ---- a body by its print
 
@@ -138,7 +130,7 @@ module _ (t : Tables) where
   body_for_found (a ∷ arrivals) found e there =
       elim (bytes_eq a.name e.name && same_print (print_of a.body) e.print) as (λ b. bytes_eq a.name e.name && same_print (print_of a.body) e.print ≡ b → b || list_any (is_body_of e) arrivals ≡ true
       → bytes_with t e.print ≡ Some (unwrap_or (option_map (λ x. x.body) (cond b (Some a) (find (is_body_of e) arrivals))) [])) [
-        | true ↦ λ same there. ap (bytes_with t) (sym ((same_print-Decides (print_of a.body) e.print).0 (second_true (bytes_eq a.name e.name) (same_print (print_of a.body) e.print) same))) ∙ found.0
+        | true ↦ λ same there. ap (bytes_with t) (sym ((same_print-Decides (print_of a.body) e.print).0 (and_parts (bytes_eq a.name e.name) (same_print (print_of a.body) e.print) same).1)) ∙ found.0
         | false ↦ λ same there. body_for_found arrivals found.1 e there
       ] refl there
 
@@ -152,8 +144,8 @@ module _ (t : Tables) where
       → map (text_in t) entries ≡ map (λ e. if has_text e.name then body_for arrivals e else []) entries
   texts_are arrivals found [] all = refl
   texts_are arrivals found (e ∷ entries) all =
-      ap (λ x. x ∷ map (text_in t) entries) (text_is arrivals found e (first_true (is_there arrivals e) _ all))
-      ∙ ap (λ xs. (if has_text e.name then body_for arrivals e else []) ∷ xs) (texts_are arrivals found entries (second_true (is_there arrivals e) _ all))
+      ap (λ x. x ∷ map (text_in t) entries) (text_is arrivals found e (and_parts (is_there arrivals e) _ all).0)
+      ∙ ap (λ xs. (if has_text e.name then body_for arrivals e else []) ∷ xs) (texts_are arrivals found entries (and_parts (is_there arrivals e) _ all).1)
 
   -- ---- an upload
 

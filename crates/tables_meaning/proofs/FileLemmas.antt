@@ -1,30 +1,30 @@
 -- What the rows of files are once a file has left the pool, and once one stands in it.
-use Rattle.std.proofs.Common.{◌≡◌, ◌≢◌, ℕ, Bool, true, false, not, ◌||◌, cond, List, [], ◌∷◌, ◌++◌, find, refl, sym, ap, subst, ◌∙◌, Option, Some, None, option_map, nat_eq, bytes_eq}
+use Rattle.std.proofs.Common.{◌≡◌, ◌≢◌, ℕ, Bool, true, false, not, ◌||◌, cond, List, [], ◌∷◌, ◌++◌, find, refl, sym, ap, subst, ◌∙◌, Option, Some, None, option_map, nat_eq}
 use Rattle.std.specs.List.{AllByRecursion, list_any}
 use Rattle.std.specs.Option.{option_and_then, option_map_or, option_or}
 use Rattle.std.specs.Ordering.{eq_by_cmp}
-use Rattle.std.specs.Cmp.{eq_by_cmp_equiv}
 use Rattle.std.specs.FinMap.{get, insert, remove, get-insert, get-remove}
 use Rattle.std.proofs.lemmas.Bool.{both_ways, false_from_ne_true}
 use Rattle.std.proofs.lemmas.List.Folds.{find-append}
-use Rattle.std.proofs.lemmas.Slice.Eq.{bytes_eq-Decides}
 use Rattle.sqlite_trees.specs.Tree.{IsAscending}
 use Rattle.sqlite_keyed.specs.Lists.{delete_where}
 use Rattle.sqlite_keyed.proofs.ListLemmas.{all_weaker, all_of, all-filter, all-append, ascending-filter, ascending-append}
 use Rattle.sums.specs.Prints.{same_print}
 use Rattle.sums.specs.declared.print.Print.{Print}
+use Rattle.sums.proofs.Agree.{same_bytes, bytes_same}
 use Rattle.suites.specs.Keys.{text_order}
-use Rattle.suites.specs.KeyLemmas.{text_order_total, text_order-IsAntisymmetric}
+use Rattle.suites.specs.KeyLemmas.{text_order_total}
 use Rattle.suites.specs.Pool.{PoolWith}
-use Rattle.suites.proofs.EntryLemmas.{same_keys}
 use Rattle.suites.proofs.Prints.{same_print-equal}
-use Rattle.suites.proofs.MovedLemmas.{bytes_same}
+use Rattle.suites.proofs.PoolLookups.{path_same, same_path}
+use Rattle.suites.proofs.ListTests.{option_or_none}
 use Rattle.tables.specs.Bodies.{body_with, has_print}
 use Rattle.tables.specs.Files.{is_file_at}
 use Rattle.tables.specs.Rows.{Numbered, Rises}
 use Rattle.tables.specs.declared.rows.BodyRow.{BodyRow}
 use Rattle.tables.specs.declared.rows.File.{File}
-use Rattle.tables_meaning.proofs.RowLists.{found_passes, found_holds, none_passes, any_found, find_kept, find_gone, found_by_number}
+use Rattle.book.proofs.Finds.{found_passes}
+use Rattle.tables_meaning.proofs.RowLists.{found_holds, none_passes, any_found, find_kept, find_gone, found_by_number}
 use Rattle.tables_meaning.specs.Kept.{print_in}
 
 -- ---- bodies and their prints
@@ -69,15 +69,6 @@ print_there (x ∷ xs) id all some none = go (nat_eq x.0 id) some none (print_th
 
 -- ---- files
 
-path_tie : (q path : List ℕ) → eq_by_cmp text_order q path ≡ true → q ≡ path
-path_tie q path = same_keys text_order-IsAntisymmetric q path
-
-path_itself : (q path : List ℕ) → q ≡ path → eq_by_cmp text_order q path ≡ true
-path_itself q path e = subst (λ p. eq_by_cmp text_order q p ≡ true) e ((eq_by_cmp_equiv text_order_total).refl q)
-
-bytes_equal : (xs ys : List ℕ) → xs ≡ ys → bytes_eq xs ys ≡ true
-bytes_equal xs ys e = (bytes_eq-Decides xs ys).1 e
-
 -- The rows of files are those of the pool, each with a body of its print.
 pub record Pooled (bodies : Numbered BodyRow) (files : List File) (held : PoolWith Print) : Type 0 where
   pub are : (path : List ℕ) → option_and_then (λ f. print_in bodies f.body) (find (is_file_at path) files) ≡ get held path
@@ -98,10 +89,10 @@ module _ (bodies : Numbered BodyRow) (files : List File) (held : PoolWith Print)
       at : (q : List ℕ) (b : Bool) → eq_by_cmp text_order q path ≡ b → shown (find (is_file_at q) (delete_where (is_file_at path) files)) ≡ cond b None (get held q)
       at q true tied =
           ap shown (find_gone (is_file_at q) (is_file_at path) files (all_of (λ f. is_file_at q f ≡ true → is_file_at path f ≡ true)
-          (λ f here. bytes_equal f.path path (bytes_same f.path q here ∙ path_tie q path tied)) files))
+          (λ f here. bytes_same f.path path (same_bytes f.path q here ∙ same_path q path tied)) files))
       at q false apart =
           ap shown (find_kept (is_file_at q) (is_file_at path) files (all_of (λ f. is_file_at path f ≡ true → is_file_at q f ≡ false)
-          (λ f there. false_from_ne_true (is_file_at q f) (λ here. both_ways (eq_by_cmp text_order q path) apart (path_itself q path (sym (bytes_same f.path q here) ∙ bytes_same f.path path there)))) files))
+          (λ f there. false_from_ne_true (is_file_at q f) (λ here. both_ways (eq_by_cmp text_order q path) apart (path_same q path (sym (same_bytes f.path q here) ∙ same_bytes f.path path there)))) files))
           ∙ was.are q
 
   module _ (printed : AllByRecursion (λ x. x.1.print ≢ None) bodies) where
@@ -111,7 +102,7 @@ module _ (bodies : Numbered BodyRow) (files : List File) (held : PoolWith Print)
       bodies_there = all-append (λ (g : File). is_body bodies g.body ≡ true) files (f ∷ []) was.bodies_there (body.is_there, tt);
       apart = ascending-append (λ (g h : File). g.path ≢ h.path) files (f ∷ []) was.apart (tt, tt)
           (all_weaker (λ g. is_file_at f.path g ≡ false) (λ g. AllByRecursion (λ h. g.path ≢ h.path) (f ∷ []))
-          (λ g off. (λ same. both_ways (is_file_at f.path g) off (bytes_equal g.path f.path same), tt)) files (none_passes (is_file_at f.path) files vacant));
+          (λ g off. (λ same. both_ways (is_file_at f.path g) off (bytes_same g.path f.path same), tt)) files (none_passes (is_file_at f.path) files vacant));
     }
       where
         shown : Option File → Option Print
@@ -124,18 +115,14 @@ module _ (bodies : Numbered BodyRow) (files : List File) (held : PoolWith Print)
         vacant : find (is_file_at f.path) files ≡ None
         vacant = nothing (find (is_file_at f.path) files) refl (was.are f.path ∙ free)
 
-        or_none : (o : Option File) → option_or o None ≡ o
-        or_none None = refl
-        or_none (Some g) = refl
-
         at : (q : List ℕ) (b : Bool) → eq_by_cmp text_order q f.path ≡ b
             → shown (option_or (find (is_file_at q) files) (cond (is_file_at q f) (Some f) None)) ≡ cond b (Some print) (get held q)
         at q true tied =
-            ap (λ p. shown (option_or (find (is_file_at p) files) (cond (is_file_at p f) (Some f) None))) (path_tie q f.path tied)
+            ap (λ p. shown (option_or (find (is_file_at p) files) (cond (is_file_at p f) (Some f) None))) (same_path q f.path tied)
             ∙ ap (λ o. shown (option_or o (cond (is_file_at f.path f) (Some f) None))) vacant
-            ∙ ap (λ b. shown (cond b (Some f) None)) (bytes_equal f.path f.path refl)
+            ∙ ap (λ b. shown (cond b (Some f) None)) (bytes_same f.path f.path refl)
             ∙ body.print_is
         at q false apart =
             ap (λ b. shown (option_or (find (is_file_at q) files) (cond b (Some f) None)))
-            (false_from_ne_true (is_file_at q f) (λ here. both_ways (eq_by_cmp text_order q f.path) apart (path_itself q f.path (sym (bytes_same f.path q here)))))
-            ∙ ap shown (or_none (find (is_file_at q) files)) ∙ was.are q
+            (false_from_ne_true (is_file_at q f) (λ here. both_ways (eq_by_cmp text_order q f.path) apart (path_same q f.path (sym (same_bytes f.path q here)))))
+            ∙ ap shown (option_or_none (find (is_file_at q) files)) ∙ was.are q

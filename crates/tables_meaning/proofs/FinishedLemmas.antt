@@ -1,11 +1,12 @@
 -- The rows without the bodies that are not whole: what they are, and that reads find the same in them.
-use Rattle.std.proofs.Common.{◌≡◌, ◌≢◌, ℕ, length, ◌<◌, Bool, true, false, not, ◌&&◌, ◌||◌, cond, if◌then◌else◌, nat_eq, List, [], ◌∷◌, map, filter, find, All, Option, Some, None, is_some, option_map, unwrap_or, IsTrue, refl, sym, ap, ◌∙◌, arith, true≢false}
+use Rattle.std.proofs.Common.{◌≡◌, ◌≢◌, ℕ, length, ◌<◌, Bool, true, false, not, ◌&&◌, cond, if◌then◌else◌, nat_eq, List, [], ◌∷◌, map, filter, find, All, Option, Some, None, is_some, option_map, unwrap_or, IsTrue, refl, sym, ap, ◌∙◌, arith, true≢false}
 use Rattle.std.specs.List.{AllByRecursion, filter_map, flat_map, list_any}
 use Rattle.std.specs.Option.{option_and_then, option_map_or}
 use Rattle.std.specs.Result.{result_ok}
-use Rattle.std.proofs.lemmas.Bool.{and_right, eqb-true, false≢true}
+use Rattle.std.proofs.lemmas.Bool.{and_right, eqb-true, false≢true, not-true, eq-eqb}
 use Rattle.std.proofs.lemmas.Bool.Decides.{nat_tests}
 use Rattle.std.proofs.lemmas.List.Elements.{recursion_from_All}
+use Rattle.std.proofs.Math.Bool.{or-false}
 use Rattle.sqlite_keyed.proofs.ListLemmas.{all_both, all_of, all_weaker, any_from_none, ascending-filter, filter_all}
 use Rattle.sqlite_keyed.specs.Lists.{sort_by as sorted_by}
 use Rattle.records.specs.Records.{changes_in}
@@ -17,7 +18,9 @@ use Rattle.sums.specs.declared.print.Print.{Print}
 use Rattle.sums.proofs.Members.{all_at}
 use Rattle.suites.specs.Shelves.{ShelvesValue}
 use Rattle.suites.specs.Upload.{UploadValue, has_text}
-use Rattle.keep.specs.Book.{Book, due, unjudged, upload_of, waiting_of}
+use Rattle.suites.proofs.ListTests.{list_any-filter}
+use Rattle.book.specs.Book.{Book, due, unjudged, upload_of, waiting_of}
+use Rattle.book.proofs.Finds.{found_in}
 use Rattle.tables.specs.Bodies.{body_with, has_print}
 use Rattle.tables.specs.Files.{is_file_at}
 use Rattle.tables.specs.Pieces.{is_of}
@@ -30,12 +33,10 @@ use Rattle.tables_meaning.specs.Finished.{finished, is_of_unfinished, is_unfinis
 use Rattle.tables_meaning.specs.Kept.{AreArrivals, AreBodies, AreItems, AreNumbered, AreUploads, arrivals_in, bytes_of, files_in, has_body, piece_order, pieces_of, print_at, wants_in}
 use Rattle.tables_meaning.specs.Reads.{bytes_with, due_in, lacks_in, missing_in, text_in, upload_in, waiting_in, wanting, wanting_rows}
 use Rattle.tables_meaning.specs.Shown.{shown_in}
-use Rattle.tables_meaning.proofs.AmendedLemmas.{found_in}
 use Rattle.tables_meaning.proofs.BodyLemmas.{are_stored, body_found, has_body_if, row_of_found}
 use Rattle.tables_meaning.proofs.DueLemmas.{due_are}
 use Rattle.tables_meaning.proofs.LikeLemmas.{items_like}
 use Rattle.tables_meaning.proofs.RowLists.{all_filtered, find_kept}
-use Rattle.tables_meaning.proofs.Searches.{list_any-filter}
 use Rattle.tables_meaning.proofs.WaitingLemmas.{waits_are}
 
 pub some_length : (ids : List ℕ) → ids ≢ [] → 0 < length ids
@@ -67,14 +68,10 @@ bodies_whole t h =
 pub kept_finished : (t : Tables) → AreBodies t → finished t ≡ t
 kept_finished t h = finished_whole t (bodies_whole t h)
 
-pub not_true : (b : Bool) → not b ≡ true → b ≡ false
-not_true true e = absurd (true≢false (sym e))
-not_true false e = refl
-
 pub whole_left : (bodies : Numbered BodyRow) → AllByRecursion (λ x. is_unfinished x ≡ false) (without is_unfinished bodies)
 whole_left bodies =
     all_filtered (λ x. is_unfinished x ≡ false) (λ x. not (is_unfinished x)) bodies
-    (all_of (λ x. not (is_unfinished x) ≡ true → is_unfinished x ≡ false) (λ x. not_true (is_unfinished x)) bodies)
+    (all_of (λ x. not (is_unfinished x) ≡ true → is_unfinished x ≡ false) (λ x. not-true (is_unfinished x)) bodies)
 
 pub finished_twice : (t : Tables) → finished (finished t) ≡ finished t
 unfolding finished
@@ -123,13 +120,6 @@ other_below a b below = grind (arith, nat_tests)
 pub other_above : (a b : ℕ) → a < b → nat_eq b a ≡ false
 other_above a b below = grind (arith, nat_tests)
 
-pub itself : (a : ℕ) → nat_eq a a ≡ true
-itself a = grind (arith, nat_tests)
-
-pub or_false : (b : Bool) → (b || false) ≡ b
-or_false true = refl
-or_false false = refl
-
 pub none_past : (n : ℕ) (xs : Numbered BodyRow) → AllByRecursion (λ y. n < y.0) xs → has_unfinished xs n ≡ false
 none_past n [] h = refl
 none_past n (x ∷ xs) h = rw (other_below n x.0 h.0, none_past n xs h.1) refl
@@ -138,7 +128,7 @@ none_past n (x ∷ xs) h = rw (other_below n x.0 h.0, none_past n xs h.1) refl
 pub tells : (xs : Numbered BodyRow) → Rises xs → AllByRecursion (λ y. has_unfinished xs y.0 ≡ is_unfinished y) xs
 tells [] up = tt
 tells (x ∷ xs) up = (
-  rw (itself x.0, none_past x.0 xs up.0) (or_false (is_unfinished x)),
+  rw ((eq-eqb x.0 x.0 refl), none_past x.0 xs up.0) (or-false (is_unfinished x)),
   all_both (λ y. x.0 < y.0) (λ y. has_unfinished xs y.0 ≡ is_unfinished y) (λ y. has_unfinished (x ∷ xs) y.0 ≡ is_unfinished y) (λ y below is. rw (other_above x.0 y.0 below) is) xs up.0 (tells xs up.1),
 )
 

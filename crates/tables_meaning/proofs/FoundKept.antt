@@ -2,8 +2,9 @@
 use Rattle.std.proofs.Common.{◌≡◌, ◌≤◌, ℕ, true, Ok, List, [], ◌∷◌, ◌++◌, map, fold, length, None, option_map, append_assoc, refl, sym, ap, subst, ◌∙◌, arith}
 use Rattle.std.proofs.lemmas.List.Sorted.{IsPermutation-refl}
 use Rattle.std.specs.FinMap.{empty, entries, get, get-empty, len-empty, len-entries}
-use Rattle.std.proofs.lemmas.List.{map-append, append-nil, length-replicate}
+use Rattle.std.proofs.lemmas.List.{map-append, append-nil, length-replicate, map-id, nil_from_length}
 use Rattle.std.proofs.lemmas.List.Elements.{All-nil, All-replicate}
+use Rattle.std.proofs.lemmas.Simd.{map-map}
 use Rattle.rules.specs.Configuration.{config_in}
 use Rattle.rules.specs.Values.{ConfigValue}
 use Rattle.suites.proofs.SharedLemmas.{entries-empty}
@@ -14,9 +15,9 @@ use Rattle.suites.specs.Keys.{key_order, text_order}
 use Rattle.suites.specs.Pool.{files_of, pool_of}
 use Rattle.suites.specs.declared.item.Item as shelf
 use Rattle.suites.specs.declared.key.ShelfKey.{ShelfKey}
-use Rattle.texts.specs.Indices.{PathText, all_texts}
-use Rattle.keep.specs.Book.{latest}
-use Rattle.keep.specs.Plain.{fresh_book}
+use Rattle.indices.specs.Indices.{PathText, all_texts}
+use Rattle.book.specs.Book.{latest}
+use Rattle.book.specs.Book.{fresh_book}
 use Rattle.tables.specs.Rows.{Tables, Numbered, first_number, rows_of, added, next_in, no_rows, with_date, with_meta}
 use Rattle.tables.specs.declared.rows.Date.{Date}
 use Rattle.tables.specs.declared.rows.TextRow.{TextRow}
@@ -25,7 +26,6 @@ use Rattle.tables.specs.declared.meta.TheConstants.{VERSION}
 use Rattle.tables_meaning.specs.Kept.{AreArrivals, AreBodies, AreFiles, AreItems, AreUploads, IsBook, arrivals_in, book_in, files_in}
 use Rattle.tables_meaning.specs.Founding.{first_date, first_dates, founded, with_dates, with_first_rows, with_path_text, with_texts}
 use Rattle.tables_meaning.proofs.FoundLemmas.{one_date}
-use Rattle.texts.proofs.Walk.{map_twice}
 use Rattle.sqlite_keyed.proofs.ListLemmas.{IsPermutation-same}
 
 -- ---- rows one after another
@@ -93,16 +93,8 @@ pub same_pairs : (xs : List PathText) → map (λ x. (x.0, x.1)) xs ≡ xs
 same_pairs [] = refl
 same_pairs (x ∷ xs) = ap (λ ys. x ∷ ys) (same_pairs xs)
 
-pub same_dates : (ds : List Date) → map (λ d. d) ds ≡ ds
-same_dates [] = refl
-same_dates (d ∷ ds) = ap (λ es. d ∷ es) (same_dates ds)
-
-no_entries : (es : List (ShelfKey × shelf.Item)) → 0 ≡ length es → es ≡ []
-no_entries [] h = refl
-no_entries (e ∷ es) h = absurd (omega arith)
-
 shows_none : entries (empty {X = shelf.Item} {R = key_order}) ≡ []
-shows_none = no_entries (entries (empty {X = shelf.Item} {R = key_order})) (sym (len-empty key_order shelf.Item) ∙ len-entries (empty {X = shelf.Item} {R = key_order}))
+shows_none = nil_from_length (entries (empty {X = shelf.Item} {R = key_order})) (sym (sym (len-empty key_order shelf.Item) ∙ len-entries (empty {X = shelf.Item} {R = key_order})))
 
 no_files : (path : List ℕ) → None ≡ get (pool empty) path
 no_files path = sym (ap (λ (es : List (ShelfKey × shelf.Item)). get (pool_of (files_of (map (λ e. e.1) es))) path) shows_none ∙ get-empty text_order path)
@@ -160,10 +152,10 @@ first_kept config moment read early = record {
   texts =
       IsPermutation-same _ _
       (ap (map (λ x. (x.path, x.body))) (rows_all text_row (first_texts config moment) [])
-      ∙ map_twice (λ x. (x.path, x.body)) text_row (first_texts config moment) ∙ same_pairs (first_texts config moment));
+      ∙ map-map (λ x. (x.path, x.body)) text_row (first_texts config moment) ∙ same_pairs (first_texts config moment));
   date_rows =
       IsPermutation-same _ _
-      (rows_all (λ d. d) (map (first_date moment) config.suites) [] ∙ same_dates (map (first_date moment) config.suites) ∙ one_date moment config.suites);
+      (rows_all (λ d. d) (map (first_date moment) config.suites) [] ∙ map-id (map (first_date moment) config.suites) ∙ one_date moment config.suites);
   dated = length-replicate (length config.suites) moment;
   in_range = All-replicate (λ d. d ≤ latest) (length config.suites) moment early;
 }

@@ -7,17 +7,18 @@ use Rattle.std.proofs.lemmas.List.{map-append, append-nil, take_more}
 use Rattle.std.proofs.lemmas.List.Sums.{fold-append}
 use Rattle.std.proofs.lemmas.Grind.{get_or_default_zero}
 use Rattle.std.proofs.lemmas.Slice.Zip.{get_or-zip, length-zip}
+use Rattle.std.proofs.lemmas.Simd.{map-map}
 use Rattle.sqlite.specs.Held.{Held, state}
 use Rattle.sqlite.specs.State.{State, KeepsCommit}
 use Rattle.sqlite.specs.Store.{Ghosts}
 use Rattle.rules.specs.Values.{ConfigValue}
 use Rattle.rules.specs.declared.suite.Suite.{Suite}
 use Rattle.suites.specs.Shelves.{ShelvesValue}
-use Rattle.texts.specs.Indices.{PathText, all_texts, folder_texts, suite_texts, texts_from}
-use Rattle.texts.specs.Positions.{indices_at, release_at}
-use Rattle.texts.specs.Release.{indices_of, release_text}
-use Rattle.texts.specs.Places.{place_entry, places_in}
-use Rattle.texts.proofs.Walk.{listed_by_place, map_twice}
+use Rattle.indices.specs.Indices.{PathText, all_texts, folder_texts, suite_texts, texts_from}
+use Rattle.indices.specs.Positions.{indices_at, release_at}
+use Rattle.indices.specs.Release.{indices_of, release_text}
+use Rattle.indices.specs.Places.{place_entry, places_in}
+use Rattle.indices.proofs.Walk.{listed_by_place}
 use Rattle.tables.specs.Rows.{Tables, Holds, Changes, no_rows, with_date, with_meta}
 use Rattle.tables.specs.Schema.{no_schema}
 use Rattle.tables.specs.declared.rows.Date.{Date}
@@ -138,7 +139,7 @@ pub suite_texts_are : (shelves : ShelvesValue) (position : ℕ) (s : Suite) (dat
 unfolding suite_texts folder_texts
 suite_texts_are shelves position s date =
     ap (λ ys. from_root s (codes "Release", release_text s date (indices_of s shelves position)) ∷ ys)
-    (sym (ap (map (from_root s)) (listed_by_place shelves position s) ∙ map_twice (from_root s) (place_entry shelves position) (places_in s.components s.architectures)))
+    (sym (ap (map (from_root s)) (listed_by_place shelves position s) ∙ map-map (from_root s) (place_entry shelves position) (places_in s.components s.architectures)))
 
 -- ---- the texts of all suites
 

@@ -9,7 +9,6 @@ use Rattle.std.proofs.lemmas.Bool.{both_ways, and_parts, and_from, or_left, or_r
 use Rattle.std.proofs.lemmas.List.Elements.{filter-append}
 use Rattle.std.proofs.lemmas.List.Folds.{find-append, list_any-append}
 use Rattle.std.proofs.lemmas.Option.{slice_get-get_or}
-use Rattle.std.proofs.lemmas.Slice.Eq.{bytes_eq-Decides}
 use Rattle.sqlite_trees.specs.Tree.{IsAscending}
 use Rattle.sqlite_keyed.specs.Lists.{delete_where, sort_by as sorted_by}
 use Rattle.sqlite_keyed.proofs.ListLemmas.{all_weaker, all-filter, all-append, all-map, ascending-filter, ascending-append, filter-filter, filter_all, filter_none}
@@ -20,21 +19,21 @@ use Rattle.suites.specs.Shelves.{ShelvesValue}
 use Rattle.suites.specs.declared.item.Item as shelf
 use Rattle.suites.specs.declared.key.ShelfKey.{ShelfKey}
 use Rattle.suites.proofs.EntryLemmas.{same_keys}
-use Rattle.suites.proofs.MovedLemmas.{bytes_same}
+use Rattle.suites.specs.Codenames.{codename_at}
+use Rattle.suites.proofs.ListTests.{option_or_none}
 use Rattle.tables.specs.Items.{is_item}
 use Rattle.tables.specs.Refs.{is_ref_of}
 use Rattle.tables.specs.Rows.{Numbered, Rises, added, next_in}
 use Rattle.tables.specs.declared.rows.ItemRow.{ItemRow}
 use Rattle.tables.specs.declared.rows.Ref.{Ref}
 use Rattle.tables.proofs.RowLemmas.{rises_added}
-use Rattle.tables_meaning.specs.Kept.{codename_at, item_row, ref_order, refs_among, refs_for, is_on, shown_row}
+use Rattle.sums.proofs.Agree.{same_bytes, bytes_same}
+use Rattle.book.proofs.Finds.{found_passes}
+use Rattle.tables_meaning.specs.Kept.{item_row, ref_order, refs_among, refs_for, is_on, shown_row}
 use Rattle.tables_meaning.proofs.NumberOrders.{refs_in_order}
-use Rattle.tables_meaning.proofs.RowLists.{found_passes, found_holds, none_passes, only_one, find_kept, find_gone, any_kept, all_filtered, number_is, below_last}
+use Rattle.tables_meaning.proofs.RowLists.{found_holds, none_passes, only_one, find_kept, find_gone, any_kept, all_filtered, number_is, below_last}
 
 -- ---- rows and the keys of shelves
-
-bytes_equal : (xs ys : List ℕ) → xs ≡ ys → bytes_eq xs ys ≡ true
-bytes_equal xs ys e = (bytes_eq-Decides xs ys).1 e
 
 -- an item and the columns that name its shelf
 record IsItem (suite : List ℕ) (kind : ℕ) (name architecture : List ℕ) (x : ItemRow) : Type 0 where
@@ -49,19 +48,19 @@ item_parts suite kind name architecture x h =
     let third = and_parts (bytes_eq x.suite suite && nat_eq x.kind kind) (bytes_eq x.«package» name) last.0 in
     let first = and_parts (bytes_eq x.suite suite) (nat_eq x.kind kind) third.0 in
     record {
-      at_suite = bytes_same x.suite suite first.0;
+      at_suite = same_bytes x.suite suite first.0;
       at_kind = eqb-true x.kind kind first.1;
-      at_name = bytes_same x.«package» name third.1;
-      at_architecture = bytes_same x.architecture architecture last.1;
+      at_name = same_bytes x.«package» name third.1;
+      at_architecture = same_bytes x.architecture architecture last.1;
     }
 
 item_from : (suite : List ℕ) (kind : ℕ) (name architecture : List ℕ) (x : ItemRow) → IsItem suite kind name architecture x → is_item suite kind name architecture x ≡ true
 item_from suite kind name architecture x h =
     and_from (bytes_eq x.suite suite && nat_eq x.kind kind && bytes_eq x.«package» name) (bytes_eq x.architecture architecture)
     (and_from (bytes_eq x.suite suite && nat_eq x.kind kind) (bytes_eq x.«package» name)
-    (and_from (bytes_eq x.suite suite) (nat_eq x.kind kind) (bytes_equal x.suite suite h.at_suite) (eq-eqb x.kind kind h.at_kind))
-    (bytes_equal x.«package» name h.at_name))
-    (bytes_equal x.architecture architecture h.at_architecture)
+    (and_from (bytes_eq x.suite suite) (nat_eq x.kind kind) (bytes_same x.suite suite h.at_suite) (eq-eqb x.kind kind h.at_kind))
+    (bytes_same x.«package» name h.at_name))
+    (bytes_same x.architecture architecture h.at_architecture)
 
 -- two items are for one shelf
 abbrev pub same_shelf : ItemRow → ItemRow → Bool
@@ -357,10 +356,6 @@ module _ (suites : List Suite) (differ : AllPairs (λ s r. s.codename ≢ r.code
       inside k true item tied h = subst (λ (q : ShelfKey). q.suite < length suites) (sym (same_keys key_order-IsAntisymmetric k e.0 tied)) lt
       inside k false item tied h = was.within k item h
 
-      or_none : (o : Option (ℕ × ItemRow)) → option_or o None ≡ o
-      or_none None = refl
-      or_none (Some y) = refl
-
       at : (k : ShelfKey) → k.suite < length suites → (b : Bool) → eq_by_cmp key_order k e.0 ≡ b
           → Stands more suites k (option_or (find (is_on suites k) items) (cond (is_on suites k x) (Some x) None)) (cond b (Some e.1) (get shown k))
       at k p true tied = subst
@@ -373,7 +368,7 @@ module _ (suites : List Suite) (differ : AllPairs (λ s r. s.codename ≢ r.code
       at k p false apart =
           let off : is_on suites k x ≡ false = not_on suites differ k e.0 x p lt apart (row_on suites e n) in
           stands_at more suites k _ (find (is_on suites k) items) _ _
-          (ap (λ b. option_or (find (is_on suites k) items) (cond b (Some x) None)) off ∙ or_none (find (is_on suites k) items))
+          (ap (λ b. option_or (find (is_on suites k) items) (cond b (Some x) None)) off ∙ option_or_none (find (is_on suites k) items))
           refl
           (stands_refs refs more suites k (find (is_on suites k) items) (get shown k)
           (λ y f. refs_past refs y.0 n e.1 (ne_eqb n y.0 (λ same.

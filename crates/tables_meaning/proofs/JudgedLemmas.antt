@@ -8,26 +8,29 @@ use Rattle.std.proofs.lemmas.List.Elements.{filter_passes, recursion_from_All}
 use Rattle.sqlite_trees.specs.Tree.{IsAscending}
 use Rattle.std.specs.List.Sorted.{IsPermutation}
 use Rattle.std.proofs.lemmas.List.Sorted.{IsPermutation-trans}
+use Rattle.std.proofs.Math.Bool.{or-false}
 use Rattle.sqlite_keyed.specs.Lists.{sort_by as sorted_by}
 use Rattle.sqlite_keyed.proofs.ListLemmas.{IsPermutation-filter, IsPermutation-same, all-filter, all_map, all_unmap, all_weaker, ascending-map, ascending_weaker, filter-map, filter-filter, filter_same, map-map}
 use Rattle.rules.specs.Verdicts.{number_of}
-use Rattle.keep.proofs.Finds.{none_is}
-use Rattle.keep.specs.Book.{Candidate, candidates, is_judged}
-use Rattle.keep.specs.Keeping.{sign_of, sign_on}
-use Rattle.keep.specs.declared.arrival.Arrival.{Arrival}
-use Rattle.keep.specs.declared.change.Judgement.{Judgement}
+use Rattle.book.proofs.Finds.{none_is, found_passes}
+use Rattle.book.specs.Book.{Candidate, candidates, is_judged}
+use Rattle.book.specs.Keeping.{sign_of, sign_on}
+use Rattle.book.specs.declared.arrival.Arrival.{Arrival}
+use Rattle.book.specs.declared.change.Judgement.{Judgement}
 use Rattle.tables.specs.Rows.{Numbered, Rises, Tables, rows_of}
 use Rattle.tables.specs.Uploads.{is_judged as has_place, is_upload, with_verdict}
 use Rattle.tables.specs.Wants.{is_wanted_by, without_wants}
 use Rattle.tables.specs.declared.rows.ArrivalRow.{ArrivalRow}
 use Rattle.tables.specs.declared.rows.UploadRow.{UploadRow}
 use Rattle.tables.specs.declared.rows.Want.{Want}
+use Rattle.suites.proofs.ListTests.{filter_same_on, same_any}
+use Rattle.sums.proofs.Words.{list_any-map}
 use Rattle.tables_meaning.specs.Kept.{AreNumbered, AreUploads, Request, arrivals_in, bytes_of, is_placed, judged_row, pieces_among, request_of, sign_in, want_order}
 use Rattle.tables_meaning.specs.Making.{with_judged}
 use Rattle.tables_meaning.proofs.StepLemmas.{rises_changed}
-use Rattle.tables_meaning.proofs.RowLists.{found_passes, found_holds, none_passes, all_filtered}
-use Rattle.tables_meaning.proofs.Searches.{all_both, ascending_with, ascending_both, map_same_on, filter_same_on, filter_twice, list_any-map, any_same, any_weaker, any_is, found_any, some_found}
-use Rattle.tables_meaning.proofs.WantLemmas.{Sign, is_sign, is_sign-Decides, is_sign-turned, entry_in, request, is_waiting, waits_as, AreRows, any_waiting, or_false}
+use Rattle.tables_meaning.proofs.RowLists.{found_holds, none_passes, all_filtered}
+use Rattle.tables_meaning.proofs.Searches.{all_both, ascending_with, ascending_both, map_same_on, filter_twice, any_weaker, any_is, found_any, some_found}
+use Rattle.tables_meaning.proofs.WantLemmas.{Sign, is_sign, is_sign-Decides, is_sign-turned, entry_in, request, is_waiting, waits_as, AreRows, any_waiting}
 use Rattle.tables_meaning.proofs.RequestLemmas.{requests, rows_from_uploads, uploads_from_rows}
 
 -- ---- the row of one upload
@@ -171,8 +174,8 @@ module _ (uploads : Numbered UploadRow) (wants : List Want) (verdicts : List Jud
       all_filtered (λ w. list_any (waits_as w.upload) (map turn uploads) ≡ true) (λ w. not (is_wanted_by one.0 w)) wants
       (all_weaker (λ w. list_any (waits_as w.upload) uploads ≡ true) (λ w. not (is_wanted_by one.0 w) ≡ true → list_any (waits_as w.upload) (map turn uploads) ≡ true)
       (λ w h other.
-      list_any-map (waits_as w.upload) turn uploads
-      ∙ any_same (λ x. waits_as w.upload (turn x)) (waits_as w.upload) (λ x. same w.upload (not-true (nat_eq w.upload one.0) other) x (nat_eq x.0 one.0) refl) uploads
+      list_any-map turn (waits_as w.upload) uploads
+      ∙ same_any (λ x. waits_as w.upload (turn x)) (waits_as w.upload) (λ x. same w.upload (not-true (nat_eq w.upload one.0) other) x (nat_eq x.0 one.0) refl) uploads
       ∙ h)
       wants are.owned)
     where
@@ -309,7 +312,7 @@ requests_judged arrivals judged j =
     each : (c : Candidate) → not (list_any (λ i. is_sign (sign_of c) (sign_on i)) (judged ++ j ∷ [])) ≡ not (list_any (λ i. is_sign (sign_of c) (sign_on i)) judged) && not (is_sign (sign_on j) (sign_of c))
     each c =
         ap not (list_any-append (λ i. is_sign (sign_of c) (sign_on i)) judged (j ∷ [])
-        ∙ ap (λ b. list_any (λ i. is_sign (sign_of c) (sign_on i)) judged || b) (sym (or_false (is_sign (sign_of c) (sign_on j))) ∙ is_sign-turned (sign_of c) (sign_on j)))
+        ∙ ap (λ b. list_any (λ i. is_sign (sign_of c) (sign_on i)) judged || b) (sym (sym (or-false (is_sign (sign_of c) (sign_on j)))) ∙ is_sign-turned (sign_of c) (sign_on j)))
         ∙ neither (list_any (λ i. is_sign (sign_of c) (sign_on i)) judged) (is_sign (sign_on j) (sign_of c))
 
 -- a waiting upload's sign is asked for
@@ -317,8 +320,8 @@ pub asked_if_waiting : (arrivals : List Arrival) (judged : List Judgement) (s : 
     → list_any (λ r. is_sign s r.0) (requests arrivals judged) ≡ true
 asked_if_waiting arrivals judged s h =
     let waiting = filter (λ c. not (is_judged judged c)) (candidates arrivals) in
-    list_any-map (λ r. is_sign s r.0) (request_of arrivals) waiting
-    ∙ sym (list_any-map (is_sign s) sign_of waiting)
+    list_any-map (request_of arrivals) (λ r. is_sign s r.0) waiting
+    ∙ sym (list_any-map sign_of (is_sign s) waiting)
     ∙ list_any-from_Any (is_sign s) (map sign_of waiting) (h.0, s, h.1, h.2, (is_sign-Decides s s).1 refl)
 
 -- ---- the tables after a judgement

@@ -8,18 +8,19 @@ use Rattle.std.proofs.lemmas.List.{length_push}
 use Rattle.sqlite_trees.specs.Tree.{IsAscending}
 use Rattle.sqlite_keyed.proofs.ListLemmas.{all-filter, all_map, all_weaker, ascending-filter, ascending-map, ascending_from_map}
 use Rattle.rules.specs.declared.suite.Suite.{Suite}
-use Rattle.keep.specs.Book.{Book, Candidate, candidate_of, candidate_order, candidates, due, in_order, is_complete, is_judged, judgements, put_in_order, unjudged}
-use Rattle.keep.specs.Keeping.{sign_of, sign_on}
-use Rattle.keep.specs.declared.arrival.Arrival.{Arrival}
-use Rattle.keep.specs.declared.change.Judgement.{Judgement}
-use Rattle.keep.specs.declared.change.Step.{Step}
+use Rattle.book.specs.Book.{Book, Candidate, candidate_of, candidate_order, candidates, due, in_order, is_complete, is_judged, judgements, put_in_order, unjudged}
+use Rattle.book.specs.Keeping.{sign_of, sign_on}
+use Rattle.book.specs.declared.arrival.Arrival.{Arrival}
+use Rattle.book.specs.declared.change.Judgement.{Judgement}
+use Rattle.book.specs.declared.change.Step.{Step}
 use Rattle.tables.specs.Rows.{Rises, Tables, rows_of}
+use Rattle.suites.proofs.ListTests.{same_any, list_any-filter}
+use Rattle.sums.proofs.Words.{list_any-map}
 use Rattle.tables_meaning.specs.Kept.{AreNumbered, AreUploads, Request, arrivals_in, request_of, sign_in}
 use Rattle.tables_meaning.proofs.Orders.{pairs_permuted}
 use Rattle.tables_meaning.specs.Planned.{KeepsOthers}
 use Rattle.tables_meaning.specs.Making.{with_judged, with_plan, with_step, with_steps}
 use Rattle.tables_meaning.proofs.PlanLemmas.{plan_keeps}
-use Rattle.tables_meaning.proofs.Searches.{any_same, list_any-filter, list_any-map}
 use Rattle.tables_meaning.proofs.WantLemmas.{Sign, is_sign, is_sign-Decides, is_waiting, request}
 use Rattle.tables_meaning.proofs.RequestLemmas.{requests, rows_from_uploads, uploads_from_rows}
 use Rattle.tables_meaning.proofs.JudgedLemmas.{arrivals_judged, judged_if_asked, requests_judged, same_arrivals, uploads_rise}
@@ -48,7 +49,7 @@ AreAsked rs = AllByRecursion (λ s. list_any (λ r. is_sign s r.0) rs ≡ true)
 still_asked : (rs : List Request) (s : Sign) (signs : List Sign) → AllByRecursion (λ u. s ≢ u) signs → AreAsked rs signs → AreAsked (filter (λ r. not (is_sign s r.0)) rs) signs
 still_asked rs s [] apart asked = tt
 still_asked rs s (u ∷ signs) apart asked = (
-  list_any-filter (λ r. is_sign u r.0) (λ r. not (is_sign s r.0)) rs ∙ any_same (λ r. not (is_sign s r.0) && is_sign u r.0) (λ r. is_sign u r.0) (λ r. same r (is_sign u r.0) refl) rs ∙ asked.0,
+  list_any-filter (λ r. is_sign u r.0) (λ r. not (is_sign s r.0)) rs ∙ same_any (λ r. not (is_sign s r.0) && is_sign u r.0) (λ r. is_sign u r.0) (λ r. same r (is_sign u r.0) refl) rs ∙ asked.0,
   still_asked rs s signs apart.1 asked.1,
 )
   where
@@ -199,7 +200,7 @@ module _ (arrivals : List Arrival) (judged : List Judgement) where
   all_asked : AllByRecursion (λ c. list_any (λ r. is_sign (sign_of c) r.0) (requests arrivals judged) ≡ true) waiting
   all_asked =
       all_weaker (λ c. list_any (λ d. is_sign (sign_of c) (sign_of d)) waiting ≡ true) (λ c. list_any (λ r. is_sign (sign_of c) r.0) (requests arrivals judged) ≡ true)
-      (λ c h. list_any-map (λ r. is_sign (sign_of c) r.0) (request_of arrivals) waiting ∙ h) waiting
+      (λ c h. list_any-map (request_of arrivals) (λ r. is_sign (sign_of c) r.0) waiting ∙ h) waiting
       (any_itself (λ c d. is_sign (sign_of c) (sign_of d)) (λ c. (is_sign-Decides (sign_of c) (sign_of c)).1 refl) waiting)
 
   -- the uploads that wait among some of the arrivals

@@ -4,8 +4,8 @@ use Rattle.std.specs.FinMap.{empty}
 use Rattle.sqlite.specs.Effect.{Database}
 use Rattle.rules.specs.Configuration.{config_in}
 use Rattle.rules.specs.Values.{ConfigValue}
-use Rattle.keep.specs.Book.{latest}
-use Rattle.keep.specs.Plain.{fresh_book}
+use Rattle.book.specs.Book.{latest}
+use Rattle.book.specs.Book.{fresh_book}
 use Rattle.tables.specs.Rows.{Holds, tables_in}
 use Rattle.tables.proofs.BookLemmas.{held_tables}
 use Rattle.tables_meaning.specs.Archives.{KeepsArchive, book_in_database}

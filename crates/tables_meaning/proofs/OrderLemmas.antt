@@ -5,8 +5,8 @@ use Rattle.std.specs.Ordering.{is_eq, is_gt}
 use Rattle.std.specs.declared.cmp.Ordering.{Ordering}
 use Rattle.std.specs.declared.cmp.Ordering.TheVariants.{Less, Equal, Greater}
 use Rattle.std.proofs.lemmas.Cmp.{on_total}
-use Rattle.keep.specs.Book.{Book, Candidate, candidate_order, candidates, in_order, is_judged, judging_order, put_in_order, unjudged}
-use Rattle.keep.specs.Keeping.{sign_of}
+use Rattle.book.specs.Book.{Book, Candidate, candidate_order, candidates, in_order, is_judged, judging_order, put_in_order, unjudged}
+use Rattle.book.specs.Keeping.{sign_of}
 use Rattle.sqlite_trees.specs.Tree.{IsAscending}
 use Rattle.sqlite_keyed.proofs.ListLemmas.{ascending-filter, ascending-map, ascending_weaker}
 use Rattle.tables.specs.Rows.{Numbered, Rises, Tables, rows_of}

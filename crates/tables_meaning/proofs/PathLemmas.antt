@@ -9,11 +9,12 @@ use Rattle.rules.specs.Configuration.{config_in}
 use Rattle.rules.specs.Values.{ConfigValue}
 use Rattle.rules.specs.declared.suite.Suite.{Suite}
 use Rattle.suites.specs.Shelves.{ShelvesValue}
+use Rattle.suites.proofs.ListMembers.{from_flat_map}
 use Rattle.sums.proofs.Members.{all_at, all_from, from_map, here, no_member, pairs_head, there}
-use Rattle.texts.specs.Indices.{PathText, suite_path, suite_texts, texts_from}
-use Rattle.texts.specs.Release.{index_path}
-use Rattle.texts.proofs.Paths.{AreNamed, CodenamesDiffer, IsNamed, config_named, folders, index_or_release, index_paths, named_rest}
-use Rattle.texts.proofs.Pairs.{in_flat, pairs_append, pairs_flat, pairs_map, pairs_none, pairs_unmap}
+use Rattle.indices.specs.Indices.{PathText, suite_path, suite_texts, texts_from}
+use Rattle.indices.specs.Release.{index_path}
+use Rattle.indices.proofs.Paths.{AreNamed, CodenamesDiffer, IsNamed, config_named, folders, index_or_release, index_paths, named_rest}
+use Rattle.indices.proofs.Pairs.{pairs_append, pairs_flat, pairs_map, pairs_none, pairs_unmap}
 use Rattle.tables_meaning.proofs.TextLemmas.{HasPathsApart, folder_paths, paths_of, suite_paths}
 
 abbrev Differ : List ℕ → List ℕ → Type 0
@@ -34,7 +35,7 @@ folder_apart : (s : Suite) → IsNamed s → AllPairs Differ (folder_paths s)
 folder_apart s named =
     AllPairs-cons Differ (codes "Release") (flat_map (λ c. map (index_path c) s.architectures) s.components)
     (all_from (Differ (codes "Release")) (flat_map (λ c. map (index_path c) s.architectures) s.components) (λ p at same.
-    let c = in_flat (λ c. map (index_path c) s.architectures) s.components p at in
+    let c = from_flat_map (λ c. map (index_path c) s.architectures) p s.components at in
     let a = from_map (index_path c.0) p s.architectures c.2 in
     index_or_release c.0 a.0 (a.2 ∙ sym same)))
     (indices_apart s named)

@@ -6,6 +6,7 @@ use Rattle.std.specs.FinMap.{get, insert, remove}
 use Rattle.std.proofs.lemmas.List.{map-append}
 use Rattle.std.proofs.lemmas.List.Elements.{recursion_from_All, All-from_recursion}
 use Rattle.std.proofs.lemmas.List.Folds.{fold-map}
+use Rattle.std.proofs.lemmas.Option.{same_Some}
 use Rattle.sqlite_keyed.specs.Lists.{delete_where}
 use Rattle.sqlite_keyed.proofs.ListLemmas.{all_map, ascending-map, ascending_from_map, filter-map}
 use Rattle.rules.specs.declared.suite.Suite.{Suite}
@@ -32,7 +33,7 @@ use Rattle.tables.proofs.Pairwise.{ascending_from_pairs, pairs_from_ascending}
 use Rattle.tables_meaning.specs.Kept.{AreFiles, AreItems, AreNumbered, AreStored, has_body, is_on, item_row, refs_among, refs_for, shown_row}
 use Rattle.tables_meaning.specs.Making.{with_plan, with_pooled, with_refs, with_shown, without_shown}
 use Rattle.tables_meaning.specs.Planned.{IsPlanned, KeepsOthers, MayPlan}
-use Rattle.tables_meaning.proofs.RowLists.{some_is_one, along_drops, along_puts}
+use Rattle.tables_meaning.proofs.RowLists.{along_drops, along_puts}
 use Rattle.tables_meaning.proofs.ItemLemmas.{OnSome, Shelved, Stands, drop_none, drop_some, put_shelf, same_shelf}
 use Rattle.tables_meaning.proofs.FileLemmas.{Pooled, add_file, found_body, is_body, take_file}
 
@@ -101,7 +102,7 @@ stands_from : (refs : List Ref) (suites : List Suite) (key : ShelfKey) (f : Opti
 stands_from refs suites key None None are all = tt
 stands_from refs suites key None (Some item) are all = cc
 stands_from refs suites key (Some x) None are all = cc
-stands_from refs suites key (Some x) (Some item) are all = some_is_one (shown_by refs x) (shown_row suites key x.0 item) are
+stands_from refs suites key (Some x) (Some item) are all = same_Some (shown_by refs x) (shown_row suites key x.0 item) are
 
 stands_are : (refs : List Ref) (suites : List Suite) (key : ShelfKey) (f : Option (ℕ × ItemRow)) (a : Option shelf.Item)
     → Stands refs suites key f a → option_map (shown_by refs) f ≡ option_and_then (λ x. option_map (shown_row suites key x.0) a) f

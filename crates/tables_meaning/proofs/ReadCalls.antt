@@ -11,8 +11,8 @@ use Rattle.sqlite.specs.Effect.{Database}
 use Rattle.sqlite.specs.State.{State, HasCleanDisk, IsUnchanged, Survives}
 use Rattle.rules.specs.Values.{ConfigValue}
 use Rattle.suites.specs.Shelves.{ShelvesValue}
-use Rattle.keep.specs.declared.change.Judgement.{Judgement}
-use Rattle.texts.specs.Indices.{PathText, text_at}
+use Rattle.book.specs.declared.change.Judgement.{Judgement}
+use Rattle.indices.specs.Indices.{PathText, text_at}
 use Rattle.tables.specs.Rows.{Fails, Holds, IsArchive, tables_in}
 use Rattle.tables.specs.Texts.{has_path}
 use Rattle.tables.specs.declared.rows.TextRow.{TextRow}
@@ -21,7 +21,7 @@ use Rattle.tables_meaning.specs.Transactions.{IsUndone}
 use Rattle.tables_meaning.proofs.Orders.{found_permuted}
 use Rattle.tables_meaning.proofs.ReadsLemmas.{undone_if_unchanged}
 use Rattle.tables.proofs.Pairwise.{ascending_from_pairs}
-use Rattle.texts.proofs.Apart.{PathsDiffer, not_equal}
+use Rattle.indices.proofs.Apart.{PathsDiffer, not_equal}
 use Rattle.sqlite_trees.specs.Tree.{IsAscending}
 use Rattle.sqlite_keyed.proofs.ListLemmas.{ascending_weaker}
 use Rattle.std.proofs.lemmas.Slice.Eq.{bytes_eq-Decides}

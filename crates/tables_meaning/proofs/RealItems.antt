@@ -30,6 +30,7 @@ use Rattle.suites.specs.Told.{AreTold}
 use Rattle.suites.specs.declared.item.Item as shelf
 use Rattle.suites.specs.declared.item.PoolFile.{PoolFile}
 use Rattle.suites.specs.declared.key.ShelfKey.{ShelfKey}
+use Rattle.suites.specs.Codenames.{codename_at}
 use Rattle.tables.specs.Files.{is_file_at}
 use Rattle.tables.specs.Items.{is_item}
 use Rattle.tables.specs.Real.{IsRealFile, IsRealItem, IsRealPrint, IsRealRef}
@@ -40,14 +41,14 @@ use Rattle.tables.specs.declared.rows.File.{File}
 use Rattle.tables.specs.declared.rows.ItemRow.{ItemRow}
 use Rattle.tables.specs.declared.rows.Ref.{Ref}
 use Rattle.vers.specs.Syntax.{IsVersion}
-use Rattle.tables_meaning.specs.Kept.{AreBodies, AreFiles, AreItems, AreReadable, IsReadable, bytes_of, codename_at, has_body, is_on, item_row, print_at, ref_order, refs_for, refs_in, shown_row}
+use Rattle.tables_meaning.specs.Kept.{AreBodies, AreFiles, AreItems, AreReadable, IsReadable, bytes_of, has_body, is_on, item_row, print_at, ref_order, refs_for, refs_in, shown_row}
 use Rattle.tables_meaning.specs.Kept as kept
 use Rattle.tables_meaning.proofs.AsciiItems.{IsPlainItem, shown_plain, sliced}
 use Rattle.tables_meaning.proofs.AsciiLemmas.{AreAscii, ascii-IsUtf8, version_ascii}
 use Rattle.tables_meaning.proofs.BodyLemmas.{apart_same, found, none_found, row_of_body}
 use Rattle.tables_meaning.proofs.NumberOrders.{ref_order_total}
-use Rattle.texts.proofs.Paths.{HasNames}
-use Rattle.texts.proofs.Pairs.{pairs_unmap}
+use Rattle.indices.proofs.Paths.{HasNames}
+use Rattle.indices.proofs.Pairs.{pairs_unmap}
 use Rattle.tables_meaning.proofs.Searches.{all_in_rows}
 use Rattle.tables_meaning.proofs.ShownLemmas.{item_from, item_parts}
 use Rattle.tables_meaning.proofs.SignedLemmas.{real_print}
@@ -86,7 +87,7 @@ record IsShownBy (t : Tables) (suites : List Suite) (shown : ShelvesValue) (key 
   refs : refs_in t x.0 ≡ refs_for x.0 item
 
 -- two rows on one shelf are of one shelf
-both_on : (suites : List Suite) (key : ShelfKey) (x y : ℕ × ItemRow) → is_on suites key x ≡ true → is_on suites key y ≡ true → is_item x.1.suite x.1.kind x.1.«package» x.1.architecture y.1 ≡ true
+pub both_on : (suites : List Suite) (key : ShelfKey) (x y : ℕ × ItemRow) → is_on suites key x ≡ true → is_on suites key y ≡ true → is_item x.1.suite x.1.kind x.1.«package» x.1.architecture y.1 ≡ true
 both_on suites key x y at too =
     let first = item_parts (codename_at suites key.suite) (kind_number key.kind) key.«package» key.architecture x.1 at in
     let second = item_parts (codename_at suites key.suite) (kind_number key.kind) key.«package» key.architecture y.1 too in

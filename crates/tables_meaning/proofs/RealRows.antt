@@ -9,15 +9,15 @@ use Rattle.rules.specs.declared.suite.Suite.{Suite}
 use Rattle.sums.proofs.Members.{all_at, all_from, contains_map, from_map}
 use Rattle.suites.proofs.ListMembers.{from_zip}
 use Rattle.suites.specs.Shelves.{ShelvesValue}
-use Rattle.texts.specs.Indices.{PathText, all_texts}
-use Rattle.keep.specs.declared.change.Judgement.{Judgement}
+use Rattle.indices.specs.Indices.{PathText, all_texts}
+use Rattle.book.specs.declared.change.Judgement.{Judgement}
 use Rattle.tables.specs.Real.{AreReal, IsRealDate, IsRealText}
 use Rattle.tables.specs.Rows.{Tables, rows_of}
 use Rattle.tables.specs.declared.rows.TextRow.{TextRow}
 use Rattle.tables_meaning.specs.Kept.{AreReadable, IsBook, date_row}
 use Rattle.tables_meaning.proofs.AsciiLemmas.{AreAscii, ascii-IsUtf8}
 use Rattle.tables_meaning.proofs.AsciiPaths.{config_ascii, texts_ascii}
-use Rattle.texts.proofs.Paths.{HasNames}
+use Rattle.indices.proofs.Paths.{HasNames}
 use Rattle.tables_meaning.proofs.RealItems.{readable_items, real_files, real_items, real_refs}
 use Rattle.tables_meaning.proofs.RealUploads.{real_arrivals, real_bodies, real_uploads, real_wants}
 

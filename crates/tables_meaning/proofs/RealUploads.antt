@@ -23,10 +23,10 @@ use Rattle.sums.specs.Prints.{print as print_of}
 use Rattle.sums.specs.declared.entries.Entry.{Entry}
 use Rattle.sums.specs.declared.entries.ListKind.TheVariants.{Changes}
 use Rattle.suites.proofs.ListMembers.{from_filter, to_filter}
-use Rattle.keep.specs.Book.{Candidate, candidate_of, candidates, is_arrival_of, is_body_of, is_judged, is_there, latest}
-use Rattle.keep.specs.Keeping.{IsDeliverable}
-use Rattle.keep.specs.declared.arrival.Arrival.{Arrival}
-use Rattle.keep.specs.declared.change.Judgement.{Judgement}
+use Rattle.book.specs.Book.{Candidate, candidate_of, candidates, is_arrival_of, is_body_of, is_judged, is_there, latest}
+use Rattle.book.specs.Keeping.{IsDeliverable}
+use Rattle.book.specs.declared.arrival.Arrival.{Arrival}
+use Rattle.book.specs.declared.change.Judgement.{Judgement}
 use Rattle.tables.specs.Real.{IsRealArrival, IsRealBody, IsRealPrint, IsRealUpload, IsRealWant}
 use Rattle.tables.specs.Rows.{Tables, rows_of}
 use Rattle.tables.specs.Uploads.{is_judged as has_place}

@@ -9,6 +9,7 @@ use Rattle.std.proofs.lemmas.List.Elements.{All-from_recursion, filter-append, f
 use Rattle.std.proofs.lemmas.List.Folds.{list_any-append}
 use Rattle.std.proofs.lemmas.Slice.Eq.{bytes_eq-Decides}
 use Rattle.std.specs.List.Sorted.{IsPermutation}
+use Rattle.std.proofs.Math.Bool.{or-false}
 use Rattle.sqlite_keyed.specs.Lists.{sort_by as sorted_by}
 use Rattle.sqlite_keyed.proofs.ListLemmas.{map-map, map_same}
 use Rattle.sqlite_keyed.proofs.SortLemmas.{sort_by-map}
@@ -16,17 +17,19 @@ use Rattle.records.specs.Records.{changes_in}
 use Rattle.records.specs.Values.{ChangesValue}
 use Rattle.sums.specs.Prints.{print as print_of, same_print}
 use Rattle.sums.specs.declared.entries.Entry.{Entry}
-use Rattle.keep.specs.Book.{Candidate, at_latest, candidate_of, candidates, has_arrival, is_body_of, is_judged, is_same_pair, is_there, with_arrival}
+use Rattle.book.specs.Book.{Candidate, at_latest, candidate_of, candidates, has_arrival, is_body_of, is_judged, is_same_pair, is_there, with_arrival}
 use Rattle.sums.specs.FileNames.{is_changes_name}
-use Rattle.keep.specs.Keeping.{sign_of, sign_on}
-use Rattle.keep.specs.declared.arrival.Arrival.{Arrival}
-use Rattle.keep.specs.declared.change.Judgement.{Judgement}
+use Rattle.sums.proofs.Words.{list_any-map}
+use Rattle.book.specs.Keeping.{sign_of, sign_on}
+use Rattle.book.specs.declared.arrival.Arrival.{Arrival}
+use Rattle.book.specs.declared.change.Judgement.{Judgement}
 use Rattle.tables.specs.Rows.{Numbered, Tables, rows_of}
 use Rattle.tables.specs.declared.rows.UploadRow.{UploadRow}
 use Rattle.tables.specs.declared.rows.Want.{Want}
+use Rattle.suites.proofs.ListTests.{same_tests, same_any, list_any-filter}
 use Rattle.tables_meaning.specs.Kept.{AreUploads, Request, arrivals_in, request_of, sign_in, want_order, wanted, wants_in}
-use Rattle.tables_meaning.proofs.Searches.{same_tests, all_of_rows, all_in_rows, pairs_of_rows, pairs_in_rows, list_any-map, list_any-filter, any_same, any_weaker}
-use Rattle.tables_meaning.proofs.WantLemmas.{Sign, is_sign, is_sign-Decides, is_sign-turned, AreRows, is_waiting, marked_entry, marked_request, or_false, request}
+use Rattle.tables_meaning.proofs.Searches.{all_of_rows, all_in_rows, pairs_of_rows, pairs_in_rows, any_weaker}
+use Rattle.tables_meaning.proofs.WantLemmas.{Sign, is_sign, is_sign-Decides, is_sign-turned, AreRows, is_waiting, marked_entry, marked_request, request}
 
 -- ---- the uploads as rows and requests
 
@@ -122,10 +125,10 @@ there_with arrivals a e = go (has_arrival arrivals a) refl
     go : (t : Bool) → has_arrival arrivals a ≡ t
         → list_any (is_body_of e) (if t then map (λ b. if is_same_pair a b then at_latest a.moment b else b) arrivals else arrivals ++ a ∷ []) ≡ list_any (is_body_of e) arrivals || is_body_of e a
     go true h =
-        list_any-map (is_body_of e) (λ b. if is_same_pair a b then at_latest a.moment b else b) arrivals
-        ∙ any_same (λ b. is_body_of e (if is_same_pair a b then at_latest a.moment b else b)) (is_body_of e) (λ b. later b (is_same_pair a b)) arrivals
+        list_any-map (λ b. if is_same_pair a b then at_latest a.moment b else b) (is_body_of e) arrivals
+        ∙ same_any (λ b. is_body_of e (if is_same_pair a b then at_latest a.moment b else b)) (is_body_of e) (λ b. later b (is_same_pair a b)) arrivals
         ∙ known h
-    go false h = list_any-append (is_body_of e) arrivals (a ∷ []) ∙ ap (λ b. list_any (is_body_of e) arrivals || b) (sym (or_false (is_body_of e a)))
+    go false h = list_any-append (is_body_of e) arrivals (a ∷ []) ∙ ap (λ b. list_any (is_body_of e) arrivals || b) (sym (sym (or-false (is_body_of e a))))
 
 -- the sign of an arrival
 abbrev pub sign_at : Arrival → Sign
@@ -198,9 +201,9 @@ module _ (a : Arrival) (c : Candidate) (is : candidate_of a ≡ Some c) where
   pub sign_asked : (arrivals : List Arrival) (judged : List Judgement) → IsAlone arrivals a → is_judged judged c ≡ false
       → list_any (λ r. is_sign (sign_at a) r.0) (requests arrivals judged) ≡ has_arrival arrivals a
   sign_asked arrivals judged alone waits =
-      list_any-map (λ r. is_sign (sign_at a) r.0) (request_of arrivals) (filter (λ d. not (is_judged judged d)) (candidates arrivals))
+      list_any-map (request_of arrivals) (λ r. is_sign (sign_at a) r.0) (filter (λ d. not (is_judged judged d)) (candidates arrivals))
       ∙ list_any-filter (λ d. is_sign (sign_at a) (sign_of d)) (λ d. not (is_judged judged d)) (candidates arrivals)
-      ∙ any_same (λ d. not (is_judged judged d) && is_sign (sign_at a) (sign_of d)) (λ d. is_sign (sign_at a) (sign_of d)) (λ d. same d (is_sign (sign_at a) (sign_of d)) refl) (candidates arrivals)
+      ∙ same_any (λ d. not (is_judged judged d) && is_sign (sign_at a) (sign_of d)) (λ d. is_sign (sign_at a) (sign_of d)) (λ d. same d (is_sign (sign_at a) (sign_of d)) refl) (candidates arrivals)
       ∙ sign_arrived arrivals alone
     where
       same : (d : Candidate) (t : Bool) → is_sign (sign_at a) (sign_of d) ≡ t → not (is_judged judged d) && t ≡ t

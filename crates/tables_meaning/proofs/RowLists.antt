@@ -7,6 +7,7 @@ use Rattle.std.specs.Cmp.{IsTotalOrder, eq_by_cmp_equiv}
 use Rattle.std.specs.FinMap.{FinMap, get, insert, remove, is_sorted, get-insert}
 use Rattle.std.specs.FinMap.Entries.{below_all}
 use Rattle.std.proofs.lemmas.Bool.{both_ways, eq-eqb, ne_eqb, eqb-true}
+use Rattle.std.proofs.lemmas.Option.{same_Some}
 use Rattle.sqlite_trees.specs.Tree.{IsAscending}
 use Rattle.sqlite_keyed.specs.Lists.{delete_where}
 use Rattle.sqlite_keyed.proofs.ListLemmas.{all_weaker}
@@ -14,24 +15,13 @@ use Rattle.suites.proofs.EntryLemmas.{and_left, and_right, less_apart}
 
 -- ---- what a search finds
 
-pub some_is_one : {X : Type 0} (x y : X) → Some x ≡ Some y → x ≡ y
-some_is_one x y e = cc
-
 module _ {X : Type 0} (p : X → Bool) where
-  pub found_passes : (xs : List X) (x : X) → find p xs ≡ Some x → p x ≡ true
-  found_passes [] x e = cc
-  found_passes (y ∷ ys) x e = go (p y) refl e (found_passes ys x)
-    where
-      go : (b : Bool) → p y ≡ b → cond b (Some y) (find p ys) ≡ Some x → (find p ys ≡ Some x → p x ≡ true) → p x ≡ true
-      go true t f more = subst (λ z. p z ≡ true) (some_is_one y x f) t
-      go false t f more = more f
-
   pub found_holds : (P : X → Type 0) (xs : List X) (x : X) → AllByRecursion P xs → find p xs ≡ Some x → P x
   found_holds P [] x all e = cc
   found_holds P (y ∷ ys) x all e = go (p y) e (found_holds P ys x all.1)
     where
       go : (b : Bool) → cond b (Some y) (find p ys) ≡ Some x → (find p ys ≡ Some x → P x) → P x
-      go true f more = subst P (some_is_one y x f) all.0
+      go true f more = subst P (same_Some y x f) all.0
       go false f more = more f
 
   pub none_passes : (xs : List X) → find p xs ≡ None → AllByRecursion (λ x. p x ≡ false) xs
@@ -49,7 +39,7 @@ module _ {X : Type 0} (p : X → Bool) where
     where
       go : (b : Bool) → p y ≡ b → cond b (Some y) (find p ys) ≡ Some x → (find p ys ≡ Some x → AllByRecursion (λ z. p z ≡ true → z ≡ x) ys) → AllByRecursion (λ z. p z ≡ true → z ≡ x) (y ∷ ys)
       go true t f more = (
-        λ _. some_is_one y x f,
+        λ _. same_Some y x f,
         all_weaker (λ z. p y ≡ true → p z ≡ false) (λ z. p z ≡ true → z ≡ x) (λ z no yes. absurd (both_ways (p z) (no t) yes)) ys up.0,
       )
       go false t f more = (λ yes. absurd (both_ways (p y) t yes), more f)
@@ -125,7 +115,7 @@ module _ {X : Type 0} where
     where
       go : (b : Bool) → cond b (Some y) (find p ys) ≡ Some x → (find p ys ≡ Some x → find (has_number x.0) ys ≡ Some x) → cond (has_number x.0 y) (Some y) (find (has_number x.0) ys) ≡ Some x
       go true f more =
-          let same : y ≡ x = some_is_one y x f in
+          let same : y ≡ x = same_Some y x f in
           ap (λ b. cond b (Some y) (find (has_number x.0) ys)) (eq-eqb y.0 x.0 (ap (λ (z : ℕ × X). z.0) same)) ∙ f
       go false f more =
           let lt : y.0 < x.0 = found_holds p (λ z. y.0 < z.0) ys x up.0 f in

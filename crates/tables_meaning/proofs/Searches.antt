@@ -1,18 +1,12 @@
 -- Lists that are searched: what holds of their elements, whether one passes a test, and which is found.
-use Rattle.std.proofs.Common.{◌≡◌, inl, inr, ℕ, zero, suc, ◌+◌, ◌<◌, Bool, true, false, not, ◌&&◌, ◌||◌, cond, List, [], ◌∷◌, map, filter, find, All, AllPairs, Some, slice_get, refl, sym, ap, ap₂, subst, ◌∙◌, true≢false}
+use Rattle.std.proofs.Common.{◌≡◌, inl, inr, ℕ, zero, suc, Bool, true, false, not, ◌&&◌, ◌||◌, cond, List, [], ◌∷◌, map, filter, find, All, AllPairs, Some, slice_get, refl, sym, ap, ap₂, subst, ◌∙◌, true≢false}
 use Rattle.std.specs.List.{AllByRecursion, list_any}
 use Rattle.std.proofs.lemmas.Bool.{and_parts, or_cases, or_left, or_right}
-use Rattle.std.proofs.lemmas.Bool.Decides.{same_from_decides}
 use Rattle.std.proofs.lemmas.List.Elements.{All-from_recursion, recursion_from_All}
 use Rattle.sqlite_trees.specs.Tree.{IsAscending}
 use Rattle.sqlite_keyed.proofs.ListLemmas.{all_map, all_unmap, all_weaker, ascending-map, ascending_from_map}
-use Rattle.tables.specs.Rows.{first_number, Numbered, Rises, next_from, next_in, rows_of}
+use Rattle.tables.specs.Rows.{Numbered, rows_of}
 use Rattle.tables.proofs.Pairwise.{ascending_from_pairs, pairs_from_ascending}
-use Rattle.tables.proofs.RowLemmas.{past}
-
--- two tests that imply each other
-pub same_tests : (a b : Bool) → (a ≡ true → b ≡ true) → (b ≡ true → a ≡ true) → a ≡ b
-same_tests a b f g = same_from_decides {P = b ≡ true} a b (f, g) (λ e. e, λ e. e)
 
 -- ---- elements and pairs of a list
 
@@ -51,10 +45,6 @@ pub map_same_on : {X Y : Type 0} (f g : X → Y) (xs : List X) → AllByRecursio
 map_same_on f g [] h = refl
 map_same_on f g (x ∷ xs) h = ap₂ ◌∷◌ h.0 (map_same_on f g xs h.1)
 
-pub filter_same_on : {X : Type 0} (p q : X → Bool) (xs : List X) → AllByRecursion (λ x. p x ≡ q x) xs → filter p xs ≡ filter q xs
-filter_same_on p q [] h = refl
-filter_same_on p q (x ∷ xs) h = ap₂ (λ b l. cond b (x ∷ l) l) h.0 (filter_same_on p q xs h.1)
-
 -- two tests, one after the other
 pub filter_twice : {X : Type 0} (p q : X → Bool) (xs : List X) → filter (λ x. p x && q x) xs ≡ filter q (filter p xs)
 filter_twice p q [] = refl
@@ -65,21 +55,6 @@ filter_twice p q (x ∷ xs) =
     ]
 
 -- ---- whether an element passes
-
-pub list_any-map : {X Y : Type 0} (p : Y → Bool) (f : X → Y) (xs : List X) → list_any p (map f xs) ≡ list_any (λ x. p (f x)) xs
-list_any-map p f [] = refl
-list_any-map p f (x ∷ xs) = ap (λ b. p (f x) || b) (list_any-map p f xs)
-
-pub list_any-filter : {X : Type 0} (p q : X → Bool) (xs : List X) → list_any p (filter q xs) ≡ list_any (λ x. q x && p x) xs
-list_any-filter p q [] = refl
-list_any-filter p q (x ∷ xs) =
-    elim (q x) as (λ b. list_any p (cond b (x ∷ filter q xs) (filter q xs)) ≡ (b && p x) || list_any (λ y. q y && p y) xs) [
-      | true ↦ ap (λ b. p x || b) (list_any-filter p q xs)
-      | false ↦ list_any-filter p q xs
-    ]
-
-pub any_same : {X : Type 0} (p q : X → Bool) → ((x : X) → p x ≡ q x) → (xs : List X) → list_any p xs ≡ list_any q xs
-any_same p q same xs = λ i. list_any (λ x. same x i) xs
 
 pub any_weaker : {X : Type 0} (p q : X → Bool) → ((x : X) → p x ≡ true → q x ≡ true) → (xs : List X) → list_any p xs ≡ true → list_any q xs ≡ true
 any_weaker p q f [] h = absurd (true≢false (sym h))
@@ -142,11 +117,3 @@ any_slice {X} p (x ∷ xs) h = go (p x) refl h (any_slice p xs)
     go false t e more = let k = more e in (suc k.0, k.1, k.2, k.3)
 
 -- ---- rowids
-
-below_next_from : {X : Type 0} (top : ℕ) (xs : Numbered X) → Rises xs → AllByRecursion (λ x. x.0 < next_from top xs) xs
-below_next_from top [] up = tt
-below_next_from top (x ∷ xs) up = (past x.0 xs up.1 up.0, below_next_from (x.0 + 1) xs up.1)
-
--- each rowid is below the next one
-pub below_next : {X : Type 0} (xs : Numbered X) → Rises xs → AllByRecursion (λ x. x.0 < next_in xs) xs
-below_next xs up = below_next_from first_number xs up

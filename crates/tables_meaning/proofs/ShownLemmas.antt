@@ -7,18 +7,17 @@ use Rattle.std.specs.Ordering.{eq_by_cmp}
 use Rattle.std.specs.Cmp.{eq_by_cmp_equiv}
 use Rattle.std.specs.FinMap.{get, entries, values, get-insert, get-from_entries, same_map}
 use Rattle.std.specs.FinMap as keyed
-use Rattle.std.proofs.lemmas.Bool.{both_ways, and_parts, and_from, eq-eqb, eqb-true, false_from_ne_true, cases_lt}
-use Rattle.std.proofs.lemmas.Bool.Decides.{nat_tests}
+use Rattle.std.proofs.lemmas.Bool.{both_ways, and_parts, and_from, eq-eqb, eqb-true, false_from_ne_true, cases_lt, lt-ltb}
 use Rattle.std.proofs.lemmas.List.Elements.{Contains-append_cases}
 use Rattle.std.proofs.lemmas.List.Quantifiers.{position-Some}
 use Rattle.std.proofs.lemmas.List.Sums.{position_or_len_is}
 use Rattle.std.proofs.lemmas.Option.{slice_get-get_or, same_Some}
-use Rattle.std.proofs.lemmas.Slice.Eq.{bytes_eq-Decides}
 use Rattle.rules.specs.declared.suite.Suite.{Suite}
 use Rattle.sums.proofs.Booleans.{neither, passed}
 use Rattle.sums.proofs.Members.{all_at, any_false, from_map, no_member}
 use Rattle.sums.specs.Prints.{same_print}
 use Rattle.sums.specs.declared.print.Print.{Print}
+use Rattle.sums.proofs.Agree.{same_bytes, bytes_same}
 use Rattle.suites.specs.Admission.{MayJoin}
 use Rattle.suites.specs.Items.{IsAtHome, standing}
 use Rattle.suites.specs.Keys.{key_order, kind_number, kind_numbered}
@@ -34,20 +33,18 @@ use Rattle.suites.proofs.EntryLemmas.{same_keys}
 use Rattle.suites.proofs.FileMembers.{entry_shown}
 use Rattle.suites.proofs.PoolLookups.{get-pool_of}
 use Rattle.suites.proofs.Prints.{same_print-equal}
-use Rattle.suites.proofs.MovedLemmas.{bytes_same}
+use Rattle.suites.specs.Codenames.{codename_at}
+use Rattle.suites.proofs.ListTests.{option_or_none}
 use Rattle.tables.specs.Items.{is_item}
 use Rattle.tables.specs.Rows.{Numbered, Tables}
 use Rattle.tables.specs.declared.rows.ItemRow.{ItemRow}
 use Rattle.tables.specs.declared.rows.Ref.{Ref}
-use Rattle.tables_meaning.specs.Kept.{AreItems, codename_at, is_on, item_row, refs_for, refs_in, shown_row}
+use Rattle.tables_meaning.specs.Kept.{AreItems, is_on, item_row, refs_for, refs_in, shown_row}
 use Rattle.tables_meaning.specs.Kept as kept
 use Rattle.tables_meaning.specs.Shown.{AreLeft, IsPut, MayBePut, MayStand, PutsRow, clash, entry_in, entry_with, file_in, is_taken, item_with, may_not_join, shown_in}
 use Rattle.rules.specs.Suites.{suite_named}
 
 -- ---- rows and the keys of shelves
-
-bytes_equal : (xs ys : List ℕ) → xs ≡ ys → bytes_eq xs ys ≡ true
-bytes_equal xs ys e = (bytes_eq-Decides xs ys).1 e
 
 -- an item and the columns that name its shelf
 pub record IsItem (suite : List ℕ) (kind : ℕ) (name architecture : List ℕ) (x : ItemRow) : Type 0 where
@@ -62,19 +59,19 @@ item_parts suite kind name architecture x h =
     let third = and_parts (bytes_eq x.suite suite && nat_eq x.kind kind) (bytes_eq x.«package» name) last.0 in
     let first = and_parts (bytes_eq x.suite suite) (nat_eq x.kind kind) third.0 in
     record {
-      at_suite = bytes_same x.suite suite first.0;
+      at_suite = same_bytes x.suite suite first.0;
       at_kind = eqb-true x.kind kind first.1;
-      at_name = bytes_same x.«package» name third.1;
-      at_architecture = bytes_same x.architecture architecture last.1;
+      at_name = same_bytes x.«package» name third.1;
+      at_architecture = same_bytes x.architecture architecture last.1;
     }
 
 pub item_from : (suite : List ℕ) (kind : ℕ) (name architecture : List ℕ) (x : ItemRow) → IsItem suite kind name architecture x → is_item suite kind name architecture x ≡ true
 item_from suite kind name architecture x h =
     and_from (bytes_eq x.suite suite && nat_eq x.kind kind && bytes_eq x.«package» name) (bytes_eq x.architecture architecture)
     (and_from (bytes_eq x.suite suite && nat_eq x.kind kind) (bytes_eq x.«package» name)
-    (and_from (bytes_eq x.suite suite) (nat_eq x.kind kind) (bytes_equal x.suite suite h.at_suite) (eq-eqb x.kind kind h.at_kind))
-    (bytes_equal x.«package» name h.at_name))
-    (bytes_equal x.architecture architecture h.at_architecture)
+    (and_from (bytes_eq x.suite suite) (nat_eq x.kind kind) (bytes_same x.suite suite h.at_suite) (eq-eqb x.kind kind h.at_kind))
+    (bytes_same x.«package» name h.at_name))
+    (bytes_same x.architecture architecture h.at_architecture)
 
 -- ---- kinds by their numbers
 
@@ -105,16 +102,13 @@ some_element (x ∷ xs) n lt = x
 codename_is : (suites : List Suite) (n : ℕ) (d : Suite) → n < length suites → codename_at suites n ≡ (get_or suites n d).codename
 codename_is suites n d lt = ap (λ o. option_map_or (λ (s : Suite). s.codename) o []) (slice_get-get_or suites n d lt)
 
-lt_true : (a b : ℕ) → a < b → nat_lt a b ≡ true
-lt_true a b h = grind (arith, nat_tests)
-
 -- the suite of a name has it
 pub named_suite : (suites : List Suite) (name : List ℕ) (n : ℕ) → suite_named suites name ≡ Some n → (n < length suites) × (name ≡ codename_at suites n)
 unfolding suite_named
 named_suite [] name n e = cc
 named_suite (s ∷ ss) name n e =
     let at = position-Some (λ (x : Suite). bytes_eq x.codename name) (s ∷ ss) n s e in
-    (at.0, sym (codename_is (s ∷ ss) n s at.0 ∙ bytes_same (get_or (s ∷ ss) n s).codename name at.1))
+    (at.0, sym (codename_is (s ∷ ss) n s at.0 ∙ same_bytes (get_or (s ∷ ss) n s).codename name at.1))
 
 module _ (suites : List Suite) (differ : AllPairs (λ s r. s.codename ≢ r.codename) suites) where
   -- a suite is found by its name
@@ -126,9 +120,9 @@ module _ (suites : List Suite) (differ : AllPairs (λ s r. s.codename ≢ r.code
       let is = codename_is suites n d lt in
       let first : position_or_len (λ (s : Suite). bytes_eq s.codename name) suites ≡ n =
       position_or_len_is (λ (s : Suite). bytes_eq s.codename name) suites n d (omega (arith, lt))
-      (λ k below. false_from_ne_true (bytes_eq (get_or suites k d).codename name) (λ same. differ k n d below lt (bytes_same (get_or suites k d).codename name same ∙ is)))
-      (λ _. bytes_equal (get_or suites n d).codename name (sym is)) in
-      ap (λ k. cond (nat_lt k (length suites)) (Some k) None) first ∙ ap (λ b. cond b (Some n) None) (lt_true n (length suites) lt)
+      (λ k below. false_from_ne_true (bytes_eq (get_or suites k d).codename name) (λ same. differ k n d below lt (same_bytes (get_or suites k d).codename name same ∙ is)))
+      (λ _. bytes_same (get_or suites n d).codename name (sym is)) in
+      ap (λ k. cond (nat_lt k (length suites)) (Some k) None) first ∙ ap (λ b. cond b (Some n) None) (lt-ltb n (length suites) lt)
 
   module _ (t : Tables) where
     -- what a row of a shelf shows
@@ -298,11 +292,7 @@ module _ (suites : List Suite) (t : Tables) where
 
   -- at last no row is left
   pub none_left : (so_far : ShelvesValue) (left : Numbered ItemRow) → length left ≡ 0 → AreLeft suites t so_far left → so_far ≡ shown_in suites t
-  none_left so_far [] none h = same_map key_order_total key_order-IsAntisymmetric so_far (shown_in suites t) (λ key. or_none (get so_far key) ∙ h key)
-    where
-      or_none : (o : Option shelf.Item) → o ≡ option_or o None
-      or_none None = refl
-      or_none (Some y) = refl
+  none_left so_far [] none h = same_map key_order_total key_order-IsAntisymmetric so_far (shown_in suites t) (λ key. sym (option_or_none (get so_far key)) ∙ h key)
   none_left so_far (x ∷ left) none h = absurd (omega (arith, none))
 
 -- ---- an item that comes to an empty shelf
@@ -324,7 +314,7 @@ module _ (shelves : ShelvesValue) (sound : AreSound shelves) (files : List PoolF
   unfolding clash
   files_agree f g one other same =
       same_print-equal f.print g.print (passed (same_print f.print g.print)
-      (sym (ap (λ b. b && not (same_print f.print g.print)) (bytes_equal f.path g.path same)) ∙ any_false (clash f) files g (joins f one).1 other))
+      (sym (ap (λ b. b && not (same_print f.print g.print)) (bytes_same f.path g.path same)) ∙ any_false (clash f) files g (joins f one).1 other))
 
   file_of_pair : (path : List ℕ) (print : Print) → Contains (map pair_of files ++ []) (path, print) → (f : PoolFile) × Contains files f × (pair_of f ≡ (path, print))
   file_of_pair path print h = elim (Contains-append_cases (map pair_of files) [] (path, print) h) [

@@ -5,7 +5,7 @@ use Rattle.std.specs.FinMap.{IsAntisymmetric, nat_cmp-IsAntisymmetric}
 use Rattle.suites.specs.KeyLemmas.{text_order_total, text_order-IsAntisymmetric, first_tied, second_tied}
 use Rattle.tables_meaning.specs.Kept.{sign_in}
 use Rattle.tables_meaning.specs.Reads.{row_order}
-use Rattle.keep.specs.Book.{judging_order}
+use Rattle.book.specs.Book.{judging_order}
 use Rattle.tables.specs.declared.rows.UploadRow.{UploadRow}
 use Rattle.tables_meaning.proofs.WantLemmas.{Sign}
 

@@ -12,12 +12,12 @@ use Rattle.records.proofs.RecordRead.{changes_of_read}
 use Rattle.sums.specs.Prints.{print as print_of}
 use Rattle.sums.specs.declared.print.Print.{Print}
 use Rattle.sums.proofs.DigestLengths.{length-md5, length-sha1, length-sha256}
-use Rattle.keep.specs.Book.{Book, Candidate, candidate_of, candidates, due, in_order, is_complete, is_judged, judgements, unjudged}
+use Rattle.book.specs.Book.{Book, Candidate, candidate_of, candidates, due, in_order, is_complete, is_judged, judgements, unjudged}
 use Rattle.sums.specs.FileNames.{is_changes_name}
-use Rattle.keep.specs.Keeping.{IsDeliverable, sign_of, sign_on}
-use Rattle.keep.specs.declared.arrival.Arrival.{Arrival}
-use Rattle.keep.specs.declared.change.Judgement.{Judgement}
-use Rattle.keep.specs.declared.change.Step.{Step}
+use Rattle.book.specs.Keeping.{IsDeliverable, sign_of, sign_on}
+use Rattle.book.specs.declared.arrival.Arrival.{Arrival}
+use Rattle.book.specs.declared.change.Judgement.{Judgement}
+use Rattle.book.specs.declared.change.Step.{Step}
 use Rattle.tables.specs.Real.{IsRealPrint}
 use Rattle.tables_meaning.specs.Kept.{AreSigned, IsSigned}
 use Rattle.tables_meaning.proofs.JudgedSteps.{all_in_order, all_taken}

@@ -13,10 +13,10 @@ use Rattle.tables.specs.Uploads.{is_upload, with_verdict}
 use Rattle.tables.specs.Wants.{without_wants}
 use Rattle.tables.specs.declared.rows.BodyRow.{BodyRow}
 use Rattle.tables.specs.declared.rows.UploadRow.{UploadRow}
-use Rattle.keep.specs.Book.{shown_past}
-use Rattle.keep.specs.Keeping.{AreSteps}
-use Rattle.keep.specs.declared.change.Judgement.{Judgement}
-use Rattle.keep.specs.declared.change.Step.{Step}
+use Rattle.book.specs.Book.{shown_past}
+use Rattle.book.specs.Keeping.{AreSteps}
+use Rattle.book.specs.declared.change.Judgement.{Judgement}
+use Rattle.book.specs.declared.change.Step.{Step}
 use Rattle.tables_meaning.specs.Kept.{AreFiles, AreItems, AreNumbered, AreStored}
 use Rattle.tables_meaning.specs.Making.{judged_by, with_judged, with_plan, with_step, with_steps}
 use Rattle.tables_meaning.specs.Planned.{IsStepped, IsPlanned, MayStep, MayPlan}

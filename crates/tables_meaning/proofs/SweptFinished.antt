@@ -11,21 +11,18 @@ use Rattle.tables.specs.declared.rows.ArrivalRow.{ArrivalRow}
 use Rattle.tables.specs.declared.rows.BodyRow.{BodyRow}
 use Rattle.tables.specs.declared.rows.File.{File}
 use Rattle.tables.specs.declared.rows.Piece.{Piece}
+use Rattle.suites.proofs.ListTests.{filter_same_on, list_any-filter, not_either}
 use Rattle.tables_meaning.specs.Finished.{finished, is_of_unfinished, is_unfinished}
 use Rattle.tables_meaning.specs.Kept.{AreArrivals, has_body, is_used}
 use Rattle.tables_meaning.specs.Sweeping.{swept}
 use Rattle.tables_meaning.proofs.BodyLemmas.{arrival_has, file_has, used_by}
-use Rattle.keep.proofs.Arrivals.{any_same}
+use Rattle.book.proofs.Arrivals.{any_same}
 use Rattle.tables_meaning.proofs.FinishedLemmas.{has_unfinished, left_whole, tells}
-use Rattle.tables_meaning.proofs.Searches.{any_parts, filter_same_on, filter_twice, list_any-filter}
+use Rattle.tables_meaning.proofs.Searches.{any_parts, filter_twice}
 
 pub and_true : (b : Bool) → (b && true) ≡ b
 and_true true = refl
 and_true false = refl
-
-neither : (a b : Bool) → not (a || b) ≡ (not a && not b)
-neither true b = refl
-neither false b = refl
 
 -- the bodies of arrivals and of files are whole
 pub record UseWhole (u : Tables) : Type 0 where
@@ -93,7 +90,7 @@ module _ (u : Tables) (up : Rises u.bodies) (whole : UseWhole u) where
   pieces_same : without (λ p. goes p.1) u.pieces ≡ without (λ p. goes_too p.1) (without (λ p. is_of_unfinished u p.1) u.pieces)
   pieces_same =
       filter_same (λ p. not (goes p.1)) (λ p. not (is_of_unfinished u p.1) && not (goes_too p.1))
-      (λ p. ap not (goes_both p.1) ∙ neither (is_of_unfinished u p.1) (goes_too p.1)) u.pieces
+      (λ p. ap not (goes_both p.1) ∙ not_either (is_of_unfinished u p.1) (goes_too p.1)) u.pieces
       ∙ filter_twice (λ p. not (is_of_unfinished u p.1)) (λ p. not (goes_too p.1)) u.pieces
 
   -- The rows without unused bodies are those of the finished rows.

@@ -3,7 +3,7 @@ use Rattle.std.proofs.Common.{◌≡◌, ◌≢◌, ◌≤◌, ℕ, Bool, true, 
 use Rattle.std.proofs.Math.Path.{fun_ext}
 use Rattle.std.specs.List.{flat_map, list_any, zip}
 use Rattle.std.specs.Option.{option_and_then, option_map}
-use Rattle.std.proofs.lemmas.Bool.{both_ways, eq-eqb, eqb-true, false_from_ne_true}
+use Rattle.std.proofs.lemmas.Bool.{both_ways, eq-eqb, eqb-true, false_from_ne_true, not-true}
 use Rattle.std.proofs.lemmas.List.Elements.{All-contains, All-from_recursion, recursion_from_All}
 use Rattle.sqlite_keyed.proofs.ListLemmas.{all_of, all_weaker, any_from_none, ascending-filter}
 use Rattle.sqlite_keyed.specs.Lists.{sort_by as sorted_by}
@@ -13,10 +13,11 @@ use Rattle.sums.specs.Prints.{print as print_of}
 use Rattle.sums.proofs.Members.{any_false}
 use Rattle.suites.specs.Shelves.{ShelvesValue, AreSound}
 use Rattle.suites.specs.Told.{AreTold}
-use Rattle.texts.specs.Indices.{all_texts}
-use Rattle.keep.specs.Book.{latest}
-use Rattle.keep.specs.Keeping.{IsDeliverable}
-use Rattle.keep.specs.declared.change.Judgement.{Judgement}
+use Rattle.indices.specs.Indices.{all_texts}
+use Rattle.indices.proofs.Pairs.{same_map_over}
+use Rattle.book.specs.Book.{latest}
+use Rattle.book.specs.Keeping.{IsDeliverable}
+use Rattle.book.specs.declared.change.Judgement.{Judgement}
 use Rattle.tables.specs.Files.{is_file_at}
 use Rattle.tables.specs.Pieces.{is_of}
 use Rattle.tables.specs.Rows.{Numbered, Tables, rows_of, without}
@@ -27,15 +28,11 @@ use Rattle.tables.specs.declared.meta.TheConstants.{VERSION}
 use Rattle.tables.proofs.Pairwise.{ascending_from_pairs, pairs_from_ascending}
 use Rattle.tables_meaning.specs.Kept.{AreArrivals, AreBodies, AreFiles, AreItems, AreSigned, AreStored, AreUploads, IsBook, arrival_in, arrivals_in, book_in, bytes_of, date_row, files_in, has_body, is_used, piece_order, pieces_for, pieces_of, print_at}
 use Rattle.tables_meaning.specs.Sweeping.{swept}
-use Rattle.tables_meaning.proofs.BodyLemmas.{all_if, found, its_arrival, its_file, map_alike, row_of_body}
+use Rattle.tables_meaning.proofs.BodyLemmas.{all_if, found, its_arrival, its_file, row_of_body}
 use Rattle.tables_meaning.proofs.LikeLemmas.{items_like}
 use Rattle.tables_meaning.proofs.RequestLemmas.{requests, rows_from_uploads, uploads_from_rows}
 use Rattle.tables_meaning.proofs.RowLists.{all_filtered, any_kept, find_kept}
 use Rattle.tables_meaning.proofs.Searches.{all_in_rows, all_of_rows}
-
-pub unset : (b : Bool) → not b ≡ true → b ≡ false
-unset true e = absurd (true≢false (sym e))
-unset false e = refl
 
 set : (b : Bool) → not (not b) ≡ true → b ≡ true
 set true e = refl
@@ -60,7 +57,7 @@ module _ (u : Tables) where
   -- the number of a used body is not that of a body that goes
   kept_number : (id : ℕ) → is_used u id ≡ true → (x : ℕ × BodyRow) → gone x ≡ true → nat_eq x.0 id ≡ false
   kept_number id used x away =
-      false_from_ne_true (nat_eq x.0 id) (λ same. both_ways (is_used u x.0) (unset (is_used u x.0) away) (ap (is_used u) (eqb-true x.0 id same) ∙ used))
+      false_from_ne_true (nat_eq x.0 id) (λ same. both_ways (is_used u x.0) (not-true (is_used u x.0) away) (ap (is_used u) (eqb-true x.0 id same) ∙ used))
 
   pub print_swept : (id : ℕ) → is_used u id ≡ true → print_at (swept u) id ≡ print_at u id
   unfolding swept
@@ -81,7 +78,7 @@ module _ (u : Tables) where
     where
       each : (x : ℕ × BodyRow) (b c : Bool) → gone x ≡ b → nat_eq p.body x.0 ≡ c → (b && c) ≡ false
       each x true true e f =
-          absurd (both_ways (is_used u x.0) (unset (is_used u x.0) e) (ap (is_used u) (sym (eqb-true p.body x.0 f) ∙ eqb-true p.body id of) ∙ used))
+          absurd (both_ways (is_used u x.0) (not-true (is_used u x.0) e) (ap (is_used u) (sym (eqb-true p.body x.0 f) ∙ eqb-true p.body id of) ∙ used))
       each x true false e f = refl
       each x false c e f = refl
 
@@ -137,7 +134,7 @@ module _ (u : Tables) where
       all_in_rows (λ p. IsTrue (has_body (swept u) p.body)) (without (λ p. goes p.1) u.pieces)
       (all_filtered (λ p. IsTrue (has_body (swept u) p.1.body)) (λ p. not (goes p.1)) u.pieces
       (all_weaker (λ p. IsTrue (has_body u p.1.body)) (λ p. not (goes p.1) ≡ true → IsTrue (has_body (swept u) p.1.body))
-      (λ p there stays. body_swept p.1.body (owner_used p.1 there (unset (goes p.1) stays)) there) u.pieces
+      (λ p there stays. body_swept p.1.body (owner_used p.1 there (not-true (goes p.1) stays)) there) u.pieces
       (all_of_rows (λ p. IsTrue (has_body u p.body)) u.pieces h)))
 
   all_used : All (λ x. IsTrue (is_used (swept u) x.0)) (swept u).bodies
@@ -160,7 +157,7 @@ module _ (u : Tables) where
   pub same_arrivals : arrivals_in (swept u) ≡ arrivals_in u
   unfolding swept arrivals_in
   same_arrivals =
-      map_alike (arrival_in (swept u)) (arrival_in u) (rows_of u.arrivals)
+      same_map_over (arrival_in (swept u)) (arrival_in u) (rows_of u.arrivals)
       (λ a c. ap (λ (l : List ℕ). record { name = a.name; body = l; moment = a.moment }) (bytes_swept a.body (its_arrival u a c)))
 
   pub arrivals_swept : AreArrivals u → AreArrivals (swept u)

@@ -9,9 +9,9 @@ use Rattle.sqlite.proofs.StateLemmas.{survives_weaker}
 use Rattle.rules.specs.Values.{ConfigValue}
 use Rattle.sums.specs.Prints.{print as print_of}
 use Rattle.suites.specs.Shelves.{ShelvesValue}
-use Rattle.keep.specs.Book.{at_moment, has_arrival, latest, span, with_delivery}
-use Rattle.keep.specs.Keeping.{IsDeliverable}
-use Rattle.keep.specs.declared.change.Judgement.{Judgement}
+use Rattle.book.specs.Book.{at_moment, has_arrival, latest, span, with_delivery}
+use Rattle.book.specs.Keeping.{IsDeliverable}
+use Rattle.book.specs.declared.change.Judgement.{Judgement}
 use Rattle.std.proofs.lemmas.List.Elements.{All-contains}
 use Rattle.sums.specs.declared.print.Print.{Print}
 use Rattle.tables.specs.Arrivals.{is_arrival}

@@ -5,13 +5,13 @@ use Rattle.std.proofs.lemmas.Option.{same_Some}
 use Rattle.std.proofs.lemmas.Slice.Eq.{bytes_eq-Decides}
 use Rattle.std.specs.List.{enumerate_from, flat_map, zip}
 use Rattle.std.specs.Prelude.{AllPairs, Contains}
-use Rattle.keep.specs.Book.{amended, dates_past, shown_past, text_at as book_text}
-use Rattle.keep.specs.Keeping.{AreRenewed}
-use Rattle.keep.specs.Scan.{some_touches}
-use Rattle.keep.specs.declared.change.Change.{Change}
-use Rattle.keep.specs.declared.change.IndexText.{IndexText}
-use Rattle.keep.specs.declared.change.Judgement.{Judgement}
-use Rattle.keep.specs.declared.change.Step.{Step}
+use Rattle.book.specs.Book.{amended, dates_past, shown_past, text_at as book_text}
+use Rattle.book.specs.Keeping.{AreRenewed}
+use Rattle.book.specs.Scan.{some_touches}
+use Rattle.book.specs.declared.change.Change.{Change}
+use Rattle.book.specs.declared.change.IndexText.{IndexText}
+use Rattle.book.specs.declared.change.Judgement.{Judgement}
+use Rattle.book.specs.declared.change.Step.{Step}
 use Rattle.rules.specs.Values.{ConfigValue}
 use Rattle.rules.specs.declared.suite.Suite.{Suite}
 use Rattle.std.proofs.lemmas.List.Sorted.{IsPermutation-map}
@@ -22,10 +22,10 @@ use Rattle.tables.specs.Dates.{with_new_date}
 use Rattle.tables.specs.Rows.{Numbered, Tables, changed, rows_of}
 use Rattle.tables.specs.Texts.{has_path, with_new_text}
 use Rattle.tables.specs.declared.rows.TextRow.{TextRow}
-use Rattle.texts.specs.Indices.{PathText, all_texts, folder_texts, index_text, suite_path, suite_texts, text_at, texts_from}
-use Rattle.texts.specs.Release.{index_path, listed_entry, listed_texts}
-use Rattle.texts.proofs.Apart.{PathsDiffer, found_of_apart, not_equal}
-use Rattle.texts.proofs.Found.{text_at-found, text_at-other}
+use Rattle.indices.specs.Indices.{PathText, all_texts, folder_texts, index_text, suite_path, suite_texts, text_at, texts_from}
+use Rattle.indices.specs.Release.{index_path, listed_entry, listed_texts}
+use Rattle.indices.proofs.Apart.{PathsDiffer, found_of_apart, not_equal}
+use Rattle.indices.proofs.Found.{text_at-found, text_at-other}
 use Rattle.tables_meaning.specs.Kept.{book_in}
 use Rattle.tables_meaning.specs.Making.{with_new_dates, with_new_texts}
 use Rattle.tables_meaning.specs.OneBook.{first_same, rest_same}

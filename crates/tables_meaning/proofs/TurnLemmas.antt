@@ -14,11 +14,11 @@ use Rattle.rules.specs.declared.suite.Suite.{Suite}
 use Rattle.suites.specs.Shelves.{ShelvesValue}
 use Rattle.tables.specs.Rows.{Tables, Holds, Rises, rows_of, tables_in}
 use Rattle.tables.proofs.BookLemmas.{held_tables}
-use Rattle.keep.specs.Book.{latest}
-use Rattle.keep.specs.Keeping.{IsSound}
-use Rattle.keep.specs.declared.change.Change.{Change}
-use Rattle.keep.specs.declared.change.Judgement.{Judgement}
-use Rattle.keep.specs.declared.change.Step.{Step}
+use Rattle.book.specs.Book.{latest}
+use Rattle.book.specs.Keeping.{IsSound}
+use Rattle.book.specs.declared.change.Change.{Change}
+use Rattle.book.specs.declared.change.Judgement.{Judgement}
+use Rattle.book.specs.declared.change.Step.{Step}
 use Rattle.tables_meaning.specs.Amending.{HasAllBodies}
 use Rattle.tables_meaning.specs.Archives.{Amends, KeepsArchive, book_in_database}
 use Rattle.tables_meaning.specs.Changing.{is_within, puts_within}

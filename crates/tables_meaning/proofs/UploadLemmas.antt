@@ -13,12 +13,13 @@ use Rattle.records.specs.Values.{ChangesValue}
 use Rattle.sums.specs.Prints.{print as print_of, same_print}
 use Rattle.sums.specs.declared.entries.Entry.{Entry}
 use Rattle.sums.specs.declared.print.Print.{Print}
-use Rattle.keep.specs.Book.{Candidate, candidate_of, has_arrival, is_judged, is_there, with_arrival}
+use Rattle.book.specs.Book.{Candidate, candidate_of, has_arrival, is_judged, is_there, with_arrival}
 use Rattle.sums.specs.FileNames.{is_changes_name}
-use Rattle.keep.specs.Keeping.{sign_on}
-use Rattle.keep.specs.declared.arrival.Arrival.{Arrival}
-use Rattle.keep.specs.declared.change.Judgement.{Judgement}
-use Rattle.keep.proofs.Prints.{same_print-Decides}
+use Rattle.sums.proofs.Words.{list_any-map}
+use Rattle.book.specs.Keeping.{sign_on}
+use Rattle.book.specs.declared.arrival.Arrival.{Arrival}
+use Rattle.book.specs.declared.change.Judgement.{Judgement}
+use Rattle.book.proofs.Prints.{same_print-Decides}
 use Rattle.tables.specs.Arrivals.{is_arrival, with_moment}
 use Rattle.tables.specs.Bodies.{body_with}
 use Rattle.tables.specs.Rows.{Numbered, Tables, added, changed, next_in, rows_of, with_arrival as put_arrival, with_body, with_piece, with_upload, with_want}
@@ -31,7 +32,6 @@ use Rattle.tables.specs.declared.rows.Want.{Want}
 use Rattle.tables_meaning.specs.Kept.{AreArrivals, AreBodies, AreNumbered, AreUploads, arrivals_in, arrival_in, bytes_of, has_body, pieces_for, request_of, sign_in, want_order, wanted, Request}
 use Rattle.tables_meaning.specs.Making.{is_here, number_with, with_arrived, with_bytes, with_delivered, with_pieces, with_requested, with_wants}
 use Rattle.tables_meaning.proofs.BodyLemmas.{are_stored, by_number, of_no_print}
-use Rattle.tables_meaning.proofs.Searches.{list_any-map}
 use Rattle.tables_meaning.proofs.WantLemmas.{Sign, is_sign, AreRows, any_row, marked_want, marked_request, with_marked, new_want, new_upload, with_one_more}
 use Rattle.tables_meaning.proofs.RequestLemmas.{judged_by_sign, requests, rows_from_uploads, uploads_from_rows, IsAlone, sign_made, sign_asked, requests_with}
 
@@ -213,7 +213,7 @@ module _ (t : Tables) (judged : List Judgement) (name bytes : List ℕ) (moment 
       row_test : list_any (is_upload name print) (rows_of marked.uploads) ≡ list_any (λ x. is_sign (name, print) (sign_in x.1)) t.uploads
       row_test =
           ap (λ us. list_any (is_upload name print) (rows_of us)) (marked_uploads name bytes moment t)
-          ∙ list_any-map (is_upload name print) (λ x. x.1) t.uploads
+          ∙ list_any-map (λ x. x.1) (is_upload name print) t.uploads
 
       -- there is one more upload
       one_more : list_any (λ x. is_sign (name, print) (sign_in x.1)) t.uploads ≡ false → more ≡ c ∷ [] → AreUploads new judged

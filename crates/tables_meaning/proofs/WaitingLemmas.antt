@@ -1,7 +1,6 @@
 -- What the uploads that are not judged wait for, as the book has it and as the tables do.
 use Rattle.std.proofs.Common.{◌≡◌, ℕ, Bool, not, if◌then◌else◌, List, [], ◌∷◌, map, filter, length, refl, ap, sym, ◌∙◌}
 use Rattle.std.specs.Ordering.{is_gt}
-use Rattle.std.specs.declared.cmp.Ordering.{Ordering}
 use Rattle.std.proofs.lemmas.List.{length-map}
 use Rattle.std.proofs.lemmas.List.Sorted.{IsPermutation-sym, length_permutation}
 use Rattle.sqlite_keyed.specs.Lists.{insert_sorted as put_by, sort_by as sorted_by}
@@ -11,14 +10,14 @@ use Rattle.sums.specs.Prints.{print as print_of}
 use Rattle.sums.specs.declared.entries.Entry.{Entry}
 use Rattle.sums.specs.declared.print.Print.{Print}
 use Rattle.suites.specs.Keys.{text_order}
-use Rattle.keep.specs.Book.{Book, Candidate, by_name, is_body_of, is_there, lacks_of, missing, put_by_name, unjudged, waiting_of}
-use Rattle.keep.specs.declared.arrival.Arrival.{Arrival}
-use Rattle.keep.specs.declared.change.Lack.{Lack}
-use Rattle.keep.specs.declared.change.Waiting.{Waiting}
+use Rattle.book.specs.Book.{Book, Candidate, by_name, is_body_of, is_there, lacks_of, missing, put_by_name, unjudged, waiting_of}
+use Rattle.book.specs.declared.arrival.Arrival.{Arrival}
+use Rattle.book.specs.declared.change.Lack.{Lack}
+use Rattle.book.specs.declared.change.Waiting.{Waiting}
 use Rattle.tables.specs.Rows.{Rises, Tables, rows_of}
 use Rattle.tables.specs.Wants.{is_wanted_by}
 use Rattle.tables.specs.declared.rows.Want.{Want}
-use Rattle.tables_meaning.specs.Kept.{AreUploads, Request, arrivals_in, request_in, request_of, want_order, wanted, wants_in}
+use Rattle.tables_meaning.specs.Kept.{AreUploads, Request, arrivals_in, request_in, request_of, want_order, wanted, wants_in, entry_order}
 use Rattle.tables_meaning.specs.Reads.{lack_from, lacks_in, missing_in, waiting_in, wanting_rows}
 use Rattle.tables_meaning.proofs.NumberOrders.{want_order_total}
 use Rattle.tables_meaning.proofs.OrderLemmas.{unjudged_requests}
@@ -48,10 +47,6 @@ missing-wants arrivals c =
     ∙ sym (as_many (map (wanted arrivals) c.changes.entries))
 
 -- ---- what is lacking
-
--- the order of the listed files: by name
-abbrev entry_order : Entry → Entry → Ordering
-entry_order e f = text_order e.name f.name
 
 put_by_name-put_by : (e : Entry) (es : List Entry) → put_by_name e es ≡ put_by entry_order e es
 put_by_name-put_by e [] = refl

@@ -10,23 +10,26 @@ use Rattle.std.proofs.lemmas.List.Elements.{filter-append}
 use Rattle.std.proofs.lemmas.Slice.Eq.{bytes_eq-Decides}
 use Rattle.std.specs.List.Sorted.{IsPermutation}
 use Rattle.std.proofs.lemmas.List.Sorted.{IsPermutation-append_left, IsPermutation-map, IsPermutation-trans, list_any-IsPermutation}
+use Rattle.std.proofs.Math.Bool.{or-false}
 use Rattle.sqlite_trees.specs.Tree.{IsAscending}
 use Rattle.sqlite_keyed.specs.Lists.{sort_by as sorted_by}
 use Rattle.sqlite_keyed.proofs.SortLemmas.{sort_by-map}
 use Rattle.sqlite_keyed.proofs.ListLemmas.{IsPermutation-same, all-append, all-filter, all-map, all_map, all_weaker, ascending-append, filter-map, filter_same, map-map, map_same}
 use Rattle.sums.specs.Prints.{same_print}
 use Rattle.sums.specs.declared.print.Print.{Print}
-use Rattle.keep.specs.Keeping.{sign_on}
-use Rattle.keep.specs.declared.change.Judgement.{Judgement}
-use Rattle.keep.proofs.Finds.{option_or_none}
-use Rattle.keep.proofs.Prints.{same_print-Decides}
-use Rattle.tables.specs.Rows.{Numbered, Rises, added, next_in, rows_of}
+use Rattle.sums.proofs.Words.{list_any-map}
+use Rattle.book.specs.Keeping.{sign_on}
+use Rattle.book.specs.declared.change.Judgement.{Judgement}
+use Rattle.book.proofs.Prints.{same_print-Decides}
+use Rattle.tables.specs.Rows.{Numbered, Rises, added, next_in, rows_of, first_number}
 use Rattle.tables.specs.Uploads.{is_judged as has_place}
 use Rattle.tables.specs.Wants.{is_want, is_wanted_by}
 use Rattle.tables.specs.declared.rows.UploadRow.{UploadRow}
 use Rattle.tables.specs.declared.rows.Want.{Want}
+use Rattle.tables.proofs.RowLemmas.{below_next}
+use Rattle.suites.proofs.ListTests.{same_tests, list_any-filter, option_or_none}
 use Rattle.tables_meaning.specs.Kept.{Request, is_placed, judged_row, sign_in, want_order}
-use Rattle.tables_meaning.proofs.Searches.{same_tests, all_from, map_same_on, list_any-map, list_any-filter, any_parts, found_any, slice_any, any_slice, below_next}
+use Rattle.tables_meaning.proofs.Searches.{all_from, map_same_on, any_parts, found_any, slice_any, any_slice}
 
 -- ---- signs
 
@@ -134,7 +137,7 @@ module _ (uploads : Numbered UploadRow) (wants : List Want) (verdicts : List Jud
   pub any_waiting : list_any (λ x. is_waiting x && is_sign s (sign_in x.1)) uploads ≡ list_any (λ r. is_sign s r.0) requests
   any_waiting =
       sym (list_any-filter (λ x. is_sign s (sign_in x.1)) is_waiting uploads)
-      ∙ sym (list_any-map (λ r. is_sign s r.0) (request wants) (filter is_waiting uploads))
+      ∙ sym (list_any-map (request wants) (λ r. is_sign s r.0) (filter is_waiting uploads))
       ∙ list_any-IsPermutation (λ r. is_sign s r.0) (map (request wants) (filter is_waiting uploads)) requests are.waiting
 
   to_judged : list_any (λ x. not (is_waiting x) && is_sign s (sign_in x.1)) uploads ≡ true → list_any (λ j. is_sign s (sign_on j)) verdicts ≡ true
@@ -151,7 +154,7 @@ module _ (uploads : Numbered UploadRow) (wants : List Want) (verdicts : List Jud
   from_judged : list_any (λ j. is_sign s (sign_on j)) verdicts ≡ true → list_any (λ x. not (is_waiting x) && is_sign s (sign_in x.1)) uploads ≡ true
   from_judged h =
       let at = any_slice (λ j. is_sign s (sign_on j)) verdicts h in
-      sym (list_any-map (λ u. not (not (has_place u)) && is_sign s (sign_in u)) (λ x. x.1) uploads)
+      sym (list_any-map (λ x. x.1) (λ u. not (not (has_place u)) && is_sign s (sign_in u)) uploads)
       ∙ found_any (λ u. not (not (has_place u)) && is_sign s (sign_in u)) (is_placed (at.0 + 1)) (rows_of uploads) (judged_row (at.0 + 1) at.1)
       (are.places at.0 ∙ ap (option_map (judged_row (at.0 + 1))) at.2) at.3
 
@@ -177,10 +180,6 @@ or_true : (b : Bool) → true ≡ b || true
 or_true true = refl
 or_true false = refl
 
-pub or_false : (b : Bool) → b ≡ b || false
-or_false true = refl
-or_false false = refl
-
 upload_kept : (name : List ℕ) (print : Print) (w : Want) → (marked_want name print w).upload ≡ w.upload
 upload_kept name print w = elim (is_want name print w) as (λ b. (cond b (record w { here = true }) w).upload ≡ w.upload) [ true ↦ refl | false ↦ refl ]
 
@@ -188,7 +187,7 @@ entry_marked : (name : List ℕ) (print : Print) (w : Want) → entry_in (marked
 entry_marked name print w =
     elim (is_want name print w) as (λ b. entry_in (cond b (record w { here = true }) w) ≡ (w.name, w.print, w.here || b)) [
       | true ↦ ap (λ h. (w.name, w.print, h)) (or_true w.here)
-      | false ↦ ap (λ h. (w.name, w.print, h)) (or_false w.here)
+      | false ↦ ap (λ h. (w.name, w.print, h)) (sym (or-false w.here))
     ]
 
 wants_marked : (name : List ℕ) (print : Print) (wants : List Want) (id : ℕ) → wants_of (map (marked_want name print) wants) id ≡ map (marked_entry (name, print)) (wants_of wants id)
@@ -267,7 +266,7 @@ with_one_more uploads wants verdicts requests s es rise are absent =
     let next = next_in uploads in
     let row : ℕ × UploadRow = (next, new_upload s) in
     let ws = wants ++ map (new_want next) es in
-    let below = below_next uploads rise in
+    let below = below_next first_number uploads rise in
     let others : AllByRecursion (λ w. nat_eq w.upload next ≡ false) wants =
     all_weaker (λ w. list_any (waits_as w.upload) uploads ≡ true) (λ w. nat_eq w.upload next ≡ false) (λ w h. not_next uploads next w.upload below h) wants are.owned in
     let old : (x : ℕ × UploadRow) → x.0 < next → request ws x ≡ request wants x = λ x l.

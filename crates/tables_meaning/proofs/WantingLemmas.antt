@@ -1,5 +1,5 @@
 -- The uploads that want something are those that are not judged, and are found one by one.
-use Rattle.std.proofs.Common.{◌≡◌, ℕ, ◌<◌, ◌≤◌, Bool, true, false, not, ◌&&◌, ◌||◌, cond, nat_eq, List, [], ◌∷◌, map, filter, find, length, Option, Some, None, option_map, IsTrue, Result, Ok, Err, refl, sym, ap, subst, ◌∙◌, arith, true≢false, inl, inr}
+use Rattle.std.proofs.Common.{◌≡◌, ℕ, ◌<◌, ◌≤◌, Bool, true, false, not, ◌&&◌, cond, nat_eq, List, [], ◌∷◌, map, filter, find, length, Option, Some, None, option_map, IsTrue, Result, Ok, Err, refl, sym, ap, subst, ◌∙◌, arith, true≢false, inl, inr}
 use Rattle.std.specs.Prelude.{nat_lt, if◌then◌else◌}
 use Rattle.std.specs.List.{AllByRecursion, cons_option, list_any}
 use Rattle.std.specs.Result.{result_ok}
@@ -8,6 +8,7 @@ use Rattle.std.proofs.lemmas.Bool.Decides.{nat_tests}
 use Rattle.std.proofs.lemmas.List.{length-map}
 use Rattle.std.proofs.lemmas.List.Elements.{All-from_recursion, recursion_from_All}
 use Rattle.std.proofs.lemmas.List.Sorted.{All-permutation, IsPermutation-sym, length_permutation}
+use Rattle.std.proofs.Math.Bool.{and_comm, or-false}
 use Rattle.sqlite_keyed.proofs.ListLemmas.{all-filter, all_map, all_unmap, all_weaker, none_counted}
 use Rattle.sqlite_keyed.proofs.SortLemmas.{IsPermutation-sort_by}
 use Rattle.records.specs.Records.{changes_in}
@@ -15,19 +16,20 @@ use Rattle.records.specs.Values.{ChangesValue}
 use Rattle.records.specs.declared.fault.RecordFault.{RecordFault}
 use Rattle.records.proofs.RecordRead.{changes_of_read}
 use Rattle.sums.specs.declared.print.Print.{Print}
-use Rattle.keep.specs.Book.{Candidate, candidate_of, candidates, is_judged}
+use Rattle.book.specs.Book.{Candidate, candidate_of, candidates, is_judged}
 use Rattle.sums.specs.FileNames.{is_changes_name}
-use Rattle.keep.specs.declared.arrival.Arrival.{Arrival}
-use Rattle.keep.specs.declared.change.Judgement.{Judgement}
+use Rattle.book.specs.declared.arrival.Arrival.{Arrival}
+use Rattle.book.specs.declared.change.Judgement.{Judgement}
 use Rattle.tables.specs.Rows.{Numbered, Rises, Tables, rows_of}
 use Rattle.tables.specs.Uploads.{is_judged as has_place}
 use Rattle.tables.specs.Wants.{IsNextWanting, is_behind, is_wanted_by, wants_behind}
 use Rattle.tables.specs.declared.rows.UploadRow.{UploadRow}
 use Rattle.tables.specs.declared.rows.Want.{Want}
+use Rattle.suites.proofs.ListTests.{same_tests, filter_same_on}
 use Rattle.tables_meaning.specs.Kept.{AreUploads, arrivals_in, request_in, request_of, want_order, wanted, wants_in}
 use Rattle.tables_meaning.proofs.NumberOrders.{want_order_total}
 use Rattle.tables_meaning.specs.Reads.{next_wanting_in, wanting}
-use Rattle.tables_meaning.proofs.Searches.{all_both, filter_same_on, same_tests}
+use Rattle.tables_meaning.proofs.Searches.{all_both}
 use Rattle.tables_meaning.proofs.WantLemmas.{waits_as}
 
 -- ---- one by one
@@ -123,13 +125,7 @@ abbrev pub wanting_behind : Tables → Option ℕ → Numbered UploadRow
 wanting_behind t after = filter (λ x. wants_behind after (rows_of t.wants) x.0) t.uploads
 
 later : (after : Option ℕ) (has : Bool) (k n : ℕ) → is_behind after k ≡ true → (nat_lt k n && has) ≡ ((is_behind after n && has) && nat_lt k n)
-later None has k n h = swapped has (nat_lt k n)
-  where
-    swapped : (b c : Bool) → (c && b) ≡ (b && c)
-    swapped true true = refl
-    swapped true false = refl
-    swapped false true = refl
-    swapped false false = refl
+later None has k n h = and_comm (nat_lt k n) has
 later (Some a) has k n h = go (nat_lt k n) (nat_lt a n) has refl refl
   where
     go : (b c d : Bool) → nat_lt k n ≡ b → nat_lt a n ≡ c → (b && d) ≡ ((c && d) && b)
@@ -228,15 +224,11 @@ only_one q [] up = tt
 only_one q (x ∷ xs) up =
     let other : (y : ℕ) → x.0 < y → nat_eq x.0 y ≡ false = λ y low. grind (arith, nat_tests, low) in
     let itself : nat_eq x.0 x.0 ≡ true = grind (arith, nat_tests) in (
-      rw (itself, none_below q x.0 xs up.0) (or_none (q x)),
+      rw (itself, none_below q x.0 xs up.0) (or-false (q x)),
       all_weaker (λ y. (x.0 < y.0) × (list_any (λ z. nat_eq z.0 y.0 && q z) xs ≡ q y)) (λ y. list_any (λ z. nat_eq z.0 y.0 && q z) (x ∷ xs) ≡ q y)
           (λ y h. rw (other y.0 h.0) h.1) xs
           (all_both (λ y. x.0 < y.0) (λ y. list_any (λ z. nat_eq z.0 y.0 && q z) xs ≡ q y) xs up.0 (only_one q xs up.1)),
     )
-  where
-    or_none : (b : Bool) → b || false ≡ b
-    or_none true = refl
-    or_none false = refl
 
 pub wanting_unjudged : (t : Tables) (judged : List Judgement) → Rises t.uploads → AreUploads t judged → wanting t ≡ filter (λ x. not (has_place x.1)) t.uploads
 unfolding wanting

@@ -2,7 +2,7 @@
 use Rattle.std.specs.Prelude.{◌≡◌, true, List, All, is_some, IsTrue}
 use Rattle.sqlite.specs.State.{State, KeepsCommit}
 use Rattle.suites.specs.declared.item.PoolFile.{PoolFile}
-use Rattle.keep.specs.declared.change.Step.{Step}
+use Rattle.book.specs.declared.change.Step.{Step}
 use Rattle.tables.specs.Bodies.{body_with}
 use Rattle.tables.specs.Rows.{Tables, Holds}
 

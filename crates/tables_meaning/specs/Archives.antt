@@ -6,10 +6,10 @@ use Rattle.sqlite.specs.State.{State, HasCleanDisk}
 use Rattle.sqlite.specs.Tree.{Trees}
 use Rattle.rules.specs.Values.{ConfigValue}
 use Rattle.suites.specs.Shelves.{ShelvesValue}
-use Rattle.keep.specs.Book.{Book, amended, dates_past, judgements, shown_past}
-use Rattle.keep.specs.Keeping.{HasEachBody}
-use Rattle.keep.specs.declared.change.Change.{Change}
-use Rattle.keep.specs.declared.change.Judgement.{Judgement}
+use Rattle.book.specs.Book.{Book, amended, dates_past, judgements, shown_past}
+use Rattle.book.specs.Keeping.{HasEachBody}
+use Rattle.book.specs.declared.change.Change.{Change}
+use Rattle.book.specs.declared.change.Judgement.{Judgement}
 use Rattle.tables.specs.Rows.{Holds, IsArchive, tables_in}
 use Rattle.tables_meaning.specs.Finished.{AreUnderWay, finished}
 use Rattle.tables_meaning.specs.Kept.{IsBook, book_in}

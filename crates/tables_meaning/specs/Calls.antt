@@ -9,11 +9,11 @@ use Rattle.sums.specs.declared.print.Print.{Print}
 use Rattle.rules.specs.Values.{ConfigValue}
 use Rattle.suites.specs.Moved.{all_stay, moved}
 use Rattle.suites.specs.Shelves.{ShelvesValue}
-use Rattle.keep.specs.Book.{at_moment, has_arrival, with_delivery}
-use Rattle.keep.specs.Keeping.{IsDeliverable, IsSound}
-use Rattle.keep.specs.declared.arrival.Arrival.{Arrival}
-use Rattle.keep.specs.declared.change.Change.{Change}
-use Rattle.keep.specs.declared.change.Judgement.{Judgement}
+use Rattle.book.specs.Book.{at_moment, has_arrival, with_delivery}
+use Rattle.book.specs.Keeping.{IsDeliverable, IsSound}
+use Rattle.book.specs.declared.arrival.Arrival.{Arrival}
+use Rattle.book.specs.declared.change.Change.{Change}
+use Rattle.book.specs.declared.change.Judgement.{Judgement}
 use Rattle.tables.specs.Rows.{Tables, Holds, IsArchive, tables_in}
 use Rattle.tables_meaning.specs.Coming.{Comes, HasComing}
 use Rattle.tables_meaning.specs.Archives.{KeepsArchive, Turns, book_in_database}

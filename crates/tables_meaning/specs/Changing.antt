@@ -3,7 +3,7 @@ use Rattle.std.specs.Prelude.{ℕ, Bool, nat_lt}
 use Rattle.std.specs.List.{list_all}
 use Rattle.suites.specs.declared.item.Item as shelf
 use Rattle.suites.specs.declared.key.ShelfKey.{ShelfKey}
-use Rattle.keep.specs.declared.change.Step.{Step}
+use Rattle.book.specs.declared.change.Step.{Step}
 
 -- the item is in one of the first suites, of which the number is given
 unfoldable pub is_within : ℕ → ShelfKey × shelf.Item → Bool

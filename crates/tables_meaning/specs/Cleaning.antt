@@ -1,5 +1,5 @@
 -- What counts at a moment, as the rows say it, and what a cleaning makes of them.
-use Rattle.std.specs.Prelude.{ℕ, ◌+◌, nat_eq, nat_lt, Bool, true, false, ◌&&◌, not, if◌then◌else◌, List, filter, fold, find, Option, Some, None}
+use Rattle.std.specs.Prelude.{ℕ, nat_eq, Bool, false, ◌&&◌, not, if◌then◌else◌, List, filter, fold, find, Option}
 use Rattle.std.specs.List.{list_any}
 use Rattle.std.specs.Option.{option_map_or}
 use Rattle.sums.specs.declared.print.Print.{Print}
@@ -10,6 +10,7 @@ use Rattle.tables.specs.Uploads.{is_judged, is_upload, without_upload}
 use Rattle.tables.specs.Wants.{with_away, without_wants}
 use Rattle.tables.specs.declared.rows.ArrivalRow.{ArrivalRow}
 use Rattle.tables.specs.declared.rows.UploadRow.{UploadRow}
+use Rattle.book.specs.Book.{counts_since}
 use Rattle.tables_meaning.specs.Kept.{print_at}
 use Rattle.tables_meaning.specs.Sweeping.{swept}
 
@@ -17,8 +18,7 @@ use Rattle.tables_meaning.specs.Sweeping.{swept}
 
 -- the arrival of a row counts at a moment
 unfoldable pub counts_row : Option ℕ → ℕ → ArrivalRow → Bool
-counts_row None moment a = true
-counts_row (Some seconds) moment a = nat_lt moment (a.moment + seconds)
+counts_row span moment a = counts_since span moment a.moment
 
 -- a body of this name and print has arrived, and the arrival counts
 unfoldable pub is_current : Option ℕ → ℕ → Tables → List ℕ → Print → Bool

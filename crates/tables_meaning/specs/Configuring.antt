@@ -3,9 +3,9 @@ use Rattle.std.specs.Prelude.{◌≡◌, ℕ, List, [], fold, map, zip}
 use Rattle.sqlite.specs.Effect.{Database}
 use Rattle.rules.specs.Values.{ConfigValue}
 use Rattle.suites.specs.Shelves.{ShelvesValue}
-use Rattle.texts.specs.Indices.{PathText, all_texts}
-use Rattle.keep.specs.Configured.{reconfigured}
-use Rattle.keep.specs.declared.change.Judgement.{Judgement}
+use Rattle.indices.specs.Indices.{PathText, all_texts}
+use Rattle.book.specs.Configured.{reconfigured}
+use Rattle.book.specs.declared.change.Judgement.{Judgement}
 use Rattle.tables.specs.Dates.{without_dates}
 use Rattle.tables.specs.Metas.{with_configuration}
 use Rattle.tables.specs.Rows.{Numbered, Tables, added}

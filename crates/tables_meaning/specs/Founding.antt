@@ -8,9 +8,9 @@ use Rattle.sqlite.specs.Tree.{Trees}
 use Rattle.rules.specs.Values.{ConfigValue}
 use Rattle.rules.specs.declared.suite.Suite.{Suite}
 use Rattle.suites.specs.Shelves.{ShelvesValue}
-use Rattle.texts.specs.Indices.{PathText, all_texts, suite_path, suite_texts}
-use Rattle.texts.specs.Places.{place_entry, places_in}
-use Rattle.texts.specs.declared.places.IndexPlace.{IndexPlace}
+use Rattle.indices.specs.Indices.{PathText, all_texts, suite_path, suite_texts}
+use Rattle.indices.specs.Places.{place_entry, places_in}
+use Rattle.indices.specs.declared.index.IndexPlace.{IndexPlace}
 use Rattle.tables.specs.Rows.{Tables, Holds, no_rows, with_meta, with_text, with_date}
 use Rattle.tables.specs.Schema.{no_schema}
 use Rattle.tables.specs.declared.rows.Date.{Date}

@@ -10,8 +10,8 @@ use Rattle.rules.specs.Values.{ConfigValue}
 use Rattle.suites.specs.Shelves.{ShelvesValue}
 use Rattle.suites.specs.declared.item.Item.{Item}
 use Rattle.suites.specs.declared.key.ShelfKey.{ShelfKey}
-use Rattle.keep.specs.Book.{Book}
-use Rattle.keep.specs.declared.change.Judgement.{Judgement}
+use Rattle.book.specs.Book.{Book}
+use Rattle.book.specs.declared.change.Judgement.{Judgement}
 use Rattle.tables.specs.Rows.{Tables, tables_in, tables_of}
 use Rattle.tables_meaning.specs.Kept.{IsBook, book_in}
 use Rattle.tables_meaning.specs.Archives.{KeepsArchive, KeepsBook, KeepsLeft, book_in_database}

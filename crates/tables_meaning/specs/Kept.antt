@@ -21,11 +21,13 @@ use Rattle.suites.specs.Shelves.{ShelvesValue, AreSound, pool}
 use Rattle.suites.specs.Told.{AreTold}
 use Rattle.suites.specs.declared.item.Item as shelf
 use Rattle.suites.specs.declared.key.ShelfKey.{ShelfKey}
-use Rattle.texts.specs.Indices.{all_texts}
-use Rattle.keep.specs.Book.{Book, Candidate, candidates, is_judged, is_there, latest}
-use Rattle.keep.specs.Keeping.{IsDeliverable, sign_of}
-use Rattle.keep.specs.declared.arrival.Arrival.{Arrival}
-use Rattle.keep.specs.declared.change.Judgement.{Judgement}
+use Rattle.suites.specs.Codenames.{codename_at}
+use Rattle.suites.specs.declared.item.PoolFile.{PoolFile}
+use Rattle.indices.specs.Indices.{all_texts}
+use Rattle.book.specs.Book.{Book, Candidate, candidates, is_judged, is_there, latest}
+use Rattle.book.specs.Keeping.{IsDeliverable, sign_of}
+use Rattle.book.specs.declared.arrival.Arrival.{Arrival}
+use Rattle.book.specs.declared.change.Judgement.{Judgement}
 use Rattle.tables.specs.Arrivals.{is_arrival}
 use Rattle.tables.specs.Bodies.{is_body_there}
 use Rattle.tables.specs.Files.{is_file_at}
@@ -132,6 +134,10 @@ pub record AreArrivals (t : Tables) : Type 0 where
 
 -- ---- uploads and what they want
 
+-- the order of the files that a .changes lists: by name
+abbrev pub entry_order : Entry → Entry → Ordering
+entry_order d e = text_order d.name e.name
+
 -- the order of what an upload wants: by name
 abbrev pub want_order : List ℕ × Print × Bool → List ℕ × Print × Bool → Ordering
 want_order v w = text_order v.0 w.0
@@ -188,10 +194,6 @@ pub record AreUploads (t : Tables) (judged : List Judgement) : Type 0 where
 
 -- ---- items and their files
 
--- the codename of the suite at a position
-abbrev pub codename_at : List Suite → ℕ → List ℕ
-codename_at suites n = option_map_or (λ s. s.codename) (slice_get suites n) []
-
 -- the row of what stands on a shelf
 abbrev pub item_row : List Suite → ShelfKey × shelf.Item → ItemRow
 item_row suites e = record {
@@ -205,9 +207,13 @@ item_row suites e = record {
   paragraph = e.1.paragraph;
 }
 
+-- the row of a file of this number
+abbrev pub ref_for : ℕ → ℕ × PoolFile → Ref
+ref_for id f = record { item = id; number = f.0; path = f.1.path; print = f.1.print }
+
 -- the rows of its files, numbered from 1
 unfoldable pub refs_for : ℕ → shelf.Item → List Ref
-refs_for id item = map (λ f. record { item = id; number = f.0; path = f.1.path; print = f.1.print }) (enumerate_from 1 item.files)
+refs_for id item = map (ref_for id) (enumerate_from 1 item.files)
 
 -- the order of the files of an item: by number
 abbrev pub ref_order : Ref → Ref → Ordering

@@ -7,7 +7,7 @@ use Rattle.std.specs.List.{All, enumerate_from, zip}
 use Rattle.std.specs.Prelude.{AllPairs, Contains, IsPermutation}
 use Rattle.std.proofs.lemmas.List.Sorted.{Contains-permutation, IsPermutation-sym, IsPermutation-trans}
 use Rattle.std.specs.Option.{option_and_then, option_map}
-use Rattle.keep.specs.declared.change.Judgement.{Judgement}
+use Rattle.book.specs.declared.change.Judgement.{Judgement}
 use Rattle.rules.specs.Configuration.{config_in}
 use Rattle.rules.specs.Values.{ConfigValue}
 use Rattle.rules.proofs.VerdictNumbers.{same_verdict}
@@ -21,14 +21,14 @@ use Rattle.suites.specs.declared.key.ShelfKey.{ShelfKey}
 use Rattle.suites.proofs.FileMembers.{entry_shown}
 use Rattle.suites.proofs.ListMembers.{from_zip}
 use Rattle.sums.proofs.Members.{all_at, from_map, here, pairs_head, pairs_tail, there, which}
-use Rattle.texts.proofs.Paths.{config_codenames}
+use Rattle.indices.proofs.Paths.{config_codenames}
 use Rattle.tables.specs.Rows.{Tables}
 use Rattle.tables.specs.declared.rows.Date.{Date}
 use Rattle.tables.specs.declared.rows.ItemRow.{ItemRow}
 use Rattle.tables.specs.declared.rows.Meta.{Meta}
 use Rattle.tables.specs.declared.rows.Ref.{Ref}
 use Rattle.tables.specs.declared.rows.UploadRow.{UploadRow}
-use Rattle.tables_meaning.specs.Kept.{AreItems, AreUploads, IsBook, book_in, date_row, is_on, item_row, judged_row, refs_for, shown_row}
+use Rattle.tables_meaning.specs.Kept.{AreItems, AreUploads, IsBook, book_in, date_row, is_on, item_row, judged_row, refs_for, shown_row, ref_for}
 
 -- ---- lists and what may be absent
 
@@ -71,15 +71,12 @@ same_judged t judged others h k =
 
 -- ---- items
 
-abbrev ref_row : ℕ → ℕ × PoolFile → Ref
-ref_row id f = record { item = id; number = f.0; path = f.1.path; print = f.1.print }
-
-same_files : (id n : ℕ) (fs gs : List PoolFile) → map (ref_row id) (enumerate_from n fs) ≡ map (ref_row id) (enumerate_from n gs) → fs ≡ gs
+same_files : (id n : ℕ) (fs gs : List PoolFile) → map (ref_for id) (enumerate_from n fs) ≡ map (ref_for id) (enumerate_from n gs) → fs ≡ gs
 same_files id n [] [] e = refl
 same_files id n [] (g ∷ gs) e = cc
 same_files id n (f ∷ fs) [] e = cc
 same_files id n (f ∷ fs) (g ∷ gs) e =
-    let row : ref_row id (n, f) ≡ ref_row id (n, g) = first_same _ _ _ _ e in
+    let row : ref_for id (n, f) ≡ ref_for id (n, g) = first_same _ _ _ _ e in
     let path : f.path ≡ g.path = ap (λ (r : Ref). r.path) row in
     let print : f.print ≡ g.print = ap (λ (r : Ref). r.print) row in
     let more : fs ≡ gs = same_files id (n + 1) fs gs (rest_same _ _ _ _ e) in

@@ -7,11 +7,11 @@ use Rattle.suites.specs.Shelves.{ShelvesValue}
 use Rattle.suites.specs.declared.plan.Plan.{Plan}
 use Rattle.tables.specs.Bodies.{body_with}
 use Rattle.tables.specs.Rows.{Tables}
-use Rattle.keep.specs.Book.{amended, dates_past, judgements, shown_past}
-use Rattle.keep.specs.Keeping.{AreSteps, HasEachBody}
-use Rattle.keep.specs.declared.change.Change.{Change}
-use Rattle.keep.specs.declared.change.Judgement.{Judgement}
-use Rattle.keep.specs.declared.change.Step.{Step}
+use Rattle.book.specs.Book.{amended, dates_past, judgements, shown_past}
+use Rattle.book.specs.Keeping.{AreSteps, HasEachBody}
+use Rattle.book.specs.declared.change.Change.{Change}
+use Rattle.book.specs.declared.change.Judgement.{Judgement}
+use Rattle.book.specs.declared.change.Step.{Step}
 use Rattle.tables_meaning.specs.Kept.{AreFiles, AreItems, AreNumbered, AreStored, IsBook, book_in}
 
 -- The rows show what the plan was made for, and the plan can be made: what it puts stands in the suites, whose codenames

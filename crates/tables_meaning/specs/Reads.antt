@@ -10,10 +10,10 @@ use Rattle.sqlite.specs.State.{State, IsUnchanged}
 use Rattle.sums.specs.declared.entries.Entry.{Entry}
 use Rattle.sums.specs.declared.print.Print.{Print}
 use Rattle.suites.specs.Upload.{UploadValue, has_text}
-use Rattle.keep.specs.Book.{is_arrival_of, judging_order}
-use Rattle.keep.specs.declared.arrival.Arrival.{Arrival}
-use Rattle.keep.specs.declared.change.Lack.{Lack}
-use Rattle.keep.specs.declared.change.Waiting.{Waiting}
+use Rattle.book.specs.Book.{is_arrival_of, judging_order}
+use Rattle.book.specs.declared.arrival.Arrival.{Arrival}
+use Rattle.book.specs.declared.change.Lack.{Lack}
+use Rattle.book.specs.declared.change.Waiting.{Waiting}
 use Rattle.tables.specs.Bodies.{body_with}
 use Rattle.tables.specs.Rows.{Tables, Numbered, Stands, rows_of}
 use Rattle.tables.specs.Wants.{is_wanted_by, wants_behind}

@@ -1,10 +1,10 @@
 //! Which fault of a keeper an error of the database is.
 
 ghost use Rattle.std.specs.Prelude.{◌≡◌, true};
-ghost use Rattle.keep.specs.Keeping.{MayAnswer};
+ghost use Rattle.book.specs.Keeping.{MayAnswer};
 ghost use Rattle.tables_meaning.specs.Faults.{fault_for};
 
-use keep::KeepFault;
+use book::KeepFault;
 use sqlite::{Error, ErrorCode};
 
 /// The fault that an error of the database is: want of memory, a size that the database cannot hold, or in all other cases a

@@ -4,8 +4,8 @@ ghost use Rattle.std.specs.Prelude.{◌≡◌, ◌≤◌, ℕ, true, All, List, 
 ghost use Rattle.sqlite.specs.Effect.{Database};
 ghost use Rattle.rules.specs.Configuration.{config_in};
 ghost use Rattle.rules.specs.Values.{ConfigValue};
-ghost use Rattle.keep.specs.Book.{Book, HasItsFiles, latest};
-ghost use Rattle.keep.specs.declared.change.Judgement.{Judgement};
+ghost use Rattle.book.specs.Book.{Book, HasItsFiles, latest};
+ghost use Rattle.book.specs.declared.change.Judgement.{Judgement};
 ghost use Rattle.suites.specs.Moved.{all_stay, moved};
 ghost use Rattle.suites.specs.Shelves.{ShelvesValue};
 ghost use Rattle.tables.specs.Rows.{Holds, tables_in};

@@ -5,7 +5,9 @@
 mod fault;
 mod laws;
 mod numbers;
+mod ordering;
 
 pub use fault::fault_of;
 pub use laws::{a_database_keeps_one_book, a_kept_book_has_its_files};
 pub use numbers::is_among;
+pub use ordering::piece_order;

@@ -9,7 +9,7 @@ ghost use Rattle.tables_audit.specs.Uploads.{IsPlacedWell, judged_at, judgement_
 
 use crate::keyed::Rows;
 use crate::uploads::places::{Placed, by_place, upload_at};
-use keep::Judgement;
+use book::Judgement;
 use rules::Verdict;
 use std::alloc::{AllocError, Global};
 use tables::rows::UploadRow;

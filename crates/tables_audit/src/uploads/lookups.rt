@@ -5,7 +5,7 @@ ghost use Rattle.tables_audit.specs.Signs.{AreInOrder, SignValue, arrived_sign, 
 
 use crate::uploads::arrived::Arrived;
 use crate::uploads::signs::{Sign, is_among, sorted_arrived, sorted_judged};
-use keep::Judgement;
+use book::Judgement;
 use std::alloc::{AllocError, Global};
 
 /// Judgements, and their names and prints in order.

@@ -1,11 +1,11 @@
 //! Names with prints, in order, so that one is found among many.
 
 ghost use Rattle.std.specs.Prelude.{◌≡◌, IfOk, map};
-ghost use Rattle.keep.specs.Book.{judging_order};
+ghost use Rattle.book.specs.Book.{judging_order};
 ghost use Rattle.tables_audit.specs.Signs.{AreInOrder, SignValue, arrived_sign, entry_sign, has_sign, judgement_sign, sign_of};
 
 use crate::uploads::arrived::Arrived;
-use keep::{Judgement, judging_order};
+use book::{Judgement, judging_order};
 use std::alloc::{AllocError, Global};
 use std::cmp::Ordering;
 use sums::{Entry, Print};

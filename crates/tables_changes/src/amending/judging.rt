@@ -9,7 +9,7 @@ ghost use Rattle.tables_meaning.specs.Making.{with_judged};
 ghost use Rattle.tables_meaning.specs.Amending.{Makes};
 ghost use Rattle.tables.specs.Calls.{CommitsNothing, Inside, IsSame, KeepsCommitted};
 
-use keep::Judgement;
+use book::Judgement;
 use rules::Verdict;
 use sqlite::{Alter, Error, ErrorCode, Transaction};
 use std::alloc::Global;

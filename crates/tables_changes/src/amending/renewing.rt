@@ -1,13 +1,13 @@
 //! The index texts and the dates after a change, as rows.
 
 ghost use Rattle.std.specs.Prelude.{if◌then◌else◌, OnOk};
-ghost use Rattle.keep.specs.Scan.{some_touches};
+ghost use Rattle.book.specs.Scan.{some_touches};
 ghost use Rattle.tables.specs.Dates.{with_new_date};
 ghost use Rattle.tables_meaning.specs.Making.{with_new_dates, with_new_texts};
 ghost use Rattle.tables_meaning.specs.Amending.{Makes};
 ghost use Rattle.tables.specs.Calls.{CommitsNothing, Inside, IsSame, KeepsCommitted};
 
-use keep::{IndexText, Step, some_changes_suite};
+use book::{IndexText, Step, some_changes_suite};
 use rules::Suite;
 use sqlite::{Alter, Error, Transaction};
 use tables::dates::update_date;

@@ -4,7 +4,7 @@ ghost use Rattle.std.specs.Prelude.{◌≡◌, fold, IfOk, OnOk};
 ghost use Rattle.tables.specs.Items.{without_item};
 ghost use Rattle.tables.specs.Refs.{without_refs};
 ghost use Rattle.tables.specs.Rows.{with_ref};
-ghost use Rattle.tables_meaning.specs.Kept.{codename_at, item_row, refs_for};
+ghost use Rattle.tables_meaning.specs.Kept.{item_row, refs_for};
 ghost use Rattle.tables_meaning.specs.Making.{with_refs, with_shown, without_shown};
 ghost use Rattle.tables_meaning.specs.Amending.{Makes};
 ghost use Rattle.tables.specs.Calls.{CommitsNothing, Inside, IsSame, KeepsCommitted};
@@ -13,20 +13,10 @@ use para::{Listed, Text};
 use rules::Suite;
 use sqlite::{Alter, Error, Transaction};
 use std::alloc::{AllocError, Global};
-use suites::{Item, Plan, PoolFile, ShelfKey};
+use suites::{Item, Plan, PoolFile, ShelfKey, codename_at};
 use tables::items::{delete_item, insert_item, item_on};
 use tables::refs::{delete_refs, insert_ref};
 use tables::rows::{ItemRow, Ref};
-
-/// The codename of the suite at a position, empty beyond the last.
-fn codename(suites: &[Suite], at: usize) -> &str
-    ensures { result.now ≡ codename_at suites.now at }
-{
-    match suites.get(at) {
-        Some(suite) => suite.codename.as_str(),
-        None => "",
-    }
-}
 
 /// Removes the item of a number, and its files.
 fn remove_item<S: Alter>(tx: &mut Transaction<'_, S>, id: u64) -> Result<(), Error>
@@ -55,7 +45,7 @@ fn take_down<S: Alter>(
     let found = item_on(
         alloc,
         tx,
-        codename(suites, key.suite),
+        codename_at(suites, key.suite),
         key.kind.number(),
         key.package.as_str(),
         key.architecture.as_str(),
@@ -95,7 +85,7 @@ fn item_row(
     let key = &entry.0;
     let item = &entry.1;
     Ok(ItemRow {
-        suite: Text::new(alloc, codename(suites, key.suite))?,
+        suite: Text::new(alloc, codename_at(suites, key.suite))?,
         kind: key.kind.number(),
         package: key.package.try_clone()?,
         architecture: key.architecture.try_clone()?,

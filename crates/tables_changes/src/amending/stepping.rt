@@ -9,7 +9,7 @@ ghost use Rattle.tables.specs.Calls.{CommitsNothing, Inside, IsSame, KeepsCommit
 use crate::amending::judging::judge_if_any;
 use crate::amending::pooling::change_pool;
 use crate::amending::showing::change_items;
-use keep::Step;
+use book::Step;
 use rules::Suite;
 use sqlite::{Alter, Error, Transaction};
 use std::alloc::Global;

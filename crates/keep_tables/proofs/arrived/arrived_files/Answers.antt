@@ -3,7 +3,7 @@ use Rattle.std.specs.List.{filter_map}
 use Rattle.sqlite.specs.Held.{state}
 use Rattle.sqlite.specs.State.{HasCleanDisk}
 use Rattle.sqlite.proofs.Callers.{unchanged_then}
-use Rattle.keep.specs.declared.arrived.ArrivedFile.{ArrivedFile}
+use Rattle.book.specs.declared.arrived.ArrivedFile.{ArrivedFile}
 use Rattle.tables.proofs.ReadLemmas.{on_err}
 use Rattle.tables.specs.Rows.{Tables}
 use Rattle.tables.specs.declared.rows.ArrivalRow.{ArrivalRow}

@@ -4,7 +4,7 @@ use Rattle.sqlite.proofs.StateLemmas.{survives_weaker}
 use Rattle.tables_bodies.specs.Counting.{arrival_counts}
 use Rattle.tables_meaning.specs.Coming.{ended_number, with_ended}
 use Rattle.tables_meaning.proofs.TakingLemmas.{both_if, both_on, delivery_ends, delivery_new, delivery_turns}
-use Rattle.keep.specs.Book.{span}
+use Rattle.book.specs.Book.{span}
 use Rattle.keep_tables.proofs.FoundArrivals.{apart_once_ended, counts_if_some}
 use Rattle.keep_tables.proofs.coming.finish_delivery.Goals as goal
 

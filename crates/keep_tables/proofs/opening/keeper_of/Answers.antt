@@ -1,12 +1,12 @@
 use Rattle.std.proofs.Common.{rules, ◌≡◌, ◌≢◌, [], sym, subst, ◌∙◌, arith}
 use Rattle.std.proofs.lemmas.Bool.{eqb-true}
+use Rattle.std.proofs.lemmas.List.{nil_from_length}
 use Rattle.sqlite.specs.State.{HasCleanDisk, Survives}
 use Rattle.sqlite.specs.Held.{state}
 use Rattle.sqlite.proofs.StateLemmas.{survives_weaker}
 use Rattle.tables_meaning.specs.Finished.{finished, without_all}
 use Rattle.tables_meaning.specs.Transactions.{IsDone, MayCommit}
 use Rattle.keep_tables.specs.Opened.{IsFinished}
-use Rattle.keep_tables.proofs.FinishLemmas.{nil_if}
 use Rattle.keep_tables.proofs.KeeperLemmas.{book_over}
 use Rattle.keep_tables.proofs.OpenLemmas.{finished_book, finished_done, finished_same, keeps_finished, keeps_same, may_finish, same_book_finished, shown_same, shown_still, whole_finished, whole_same}
 use Rattle.keep_tables.proofs.opening.keeper_of.Goals as goal
@@ -15,14 +15,14 @@ pub keeper_over-requires-clause-kept : goal.keeper_over-requires-clause-kept
 keeper_over-requires-clause-kept g c clean up =
     let found = c.args.found in
     let empty = eqb-true _ 0 (sym c.is_empty.ensures ∙ c.if-is_empty.true) in
-    let none : found.unfinished.items ≡ [] = nil_if found.unfinished.items (omega (arith, empty, found.unfinished.ok.0)) in
+    let none : found.unfinished.items ≡ [] = nil_from_length found.unfinished.items (omega (arith, empty, found.unfinished.ok.0)) in
     keeps_same (state g.S.Store c.args.connection) found.held.config found.held.judged.items found.held.dates.items found.unfinished.items (c.requires.found clean) none
 
 pub keeper_over-requires-clause-whole : goal.keeper_over-requires-clause-whole
 keeper_over-requires-clause-whole g c clean up =
     let found = c.args.found in
     let empty = eqb-true _ 0 (sym c.is_empty.ensures ∙ c.if-is_empty.true) in
-    let none : found.unfinished.items ≡ [] = nil_if found.unfinished.items (omega (arith, empty, found.unfinished.ok.0)) in
+    let none : found.unfinished.items ≡ [] = nil_from_length found.unfinished.items (omega (arith, empty, found.unfinished.ok.0)) in
     whole_same (state g.S.Store c.args.connection) found.held.config found.held.judged.items found.held.dates.items found.unfinished.items (c.requires.found clean) none
 
 pub keeper_over-requires-clause-shown : goal.keeper_over-requires-clause-shown
@@ -35,7 +35,7 @@ returns-then-is_empty-clause-opened g c clean =
     let s = state g.S.Store c.args.connection in
     let found = c.args.found in
     let empty = eqb-true _ 0 (sym c.is_empty.ensures ∙ c.if-is_empty.true) in
-    let none : found.unfinished.items ≡ [] = nil_if found.unfinished.items (omega (arith, empty, found.unfinished.ok.0)) in
+    let none : found.unfinished.items ≡ [] = nil_from_length found.unfinished.items (omega (arith, empty, found.unfinished.ok.0)) in
     let early : HasCleanDisk s = subst (λ k. HasCleanDisk (state g.S.Store k)) c.keeper_over.ensures.conn clean in
     let over = c.keeper_over.ensures in (
       subst (λ k. IsFinished s (state g.S.Store k)) (sym over.conn)

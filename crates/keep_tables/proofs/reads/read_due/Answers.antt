@@ -2,8 +2,8 @@ use Rattle.std.proofs.Common.{map, not, ap, ◌∙◌, arith}
 use Rattle.std.proofs.lemmas.Result.{IfOk-weaker}
 use Rattle.sqlite.specs.Held.{state}
 use Rattle.sqlite.specs.State.{HasCleanDisk}
-use Rattle.keep.specs.Book.{at_moment, due}
-use Rattle.keep.proofs.Signs.{signs_of}
+use Rattle.book.specs.Book.{at_moment, due}
+use Rattle.book.proofs.Signs.{signs_of}
 use Rattle.tables.specs.Rows.{tables_in}
 use Rattle.tables_meaning.specs.Archives.{book_in_database}
 use Rattle.tables_meaning.proofs.ReadCalls.{open_after, read_after, rows_after, undone_either}

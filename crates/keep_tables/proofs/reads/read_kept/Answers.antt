@@ -1,6 +1,6 @@
 use Rattle.std.proofs.Common.{sym, ◌∙◌}
 use Rattle.sqlite.specs.Held.{state}
-use Rattle.keep.specs.Book.{text_at}
+use Rattle.book.specs.Book.{text_at}
 use Rattle.tables_meaning.specs.Archives.{book_in_database}
 use Rattle.keep_tables.proofs.AtHandLemmas.{other_kept}
 use Rattle.keep_tables.proofs.reads.read_kept.Goals as goal

@@ -1,7 +1,7 @@
 use Rattle.std.proofs.Common.{not, ap, sym, ◌∙◌, arith, option_map, Some}
 use Rattle.sqlite.specs.Held.{state}
 use Rattle.sqlite.specs.State.{HasCleanDisk}
-use Rattle.texts.specs.Indices.{all_texts, index_text}
+use Rattle.indices.specs.Indices.{all_texts, index_text}
 use Rattle.tables.specs.Rows.{rows_of, tables_in}
 use Rattle.tables.specs.declared.rows.TextRow.{TextRow}
 use Rattle.tables_meaning.specs.Finished.{finished}

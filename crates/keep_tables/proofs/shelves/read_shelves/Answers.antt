@@ -7,7 +7,7 @@ use Rattle.tables.specs.declared.rows.Ref.{Ref}
 use Rattle.tables_meaning.specs.Kept.{ref_order}
 use Rattle.tables_meaning.specs.Reads.{sorted_by}
 use Rattle.tables_meaning.specs.Shown.{PutsRow}
-use Rattle.texts.proofs.Paths.{config_codenames}
+use Rattle.indices.proofs.Paths.{config_codenames}
 use Rattle.tables_meaning.proofs.ReadsLemmas.{held_after, survives_after, survives_foreign}
 use Rattle.tables_meaning.proofs.ShownLemmas.{all_left, none_left, one_less, shown_is}
 use Rattle.keep_tables.proofs.shelves.read_shelves.Goals as goal

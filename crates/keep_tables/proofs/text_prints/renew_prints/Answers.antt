@@ -1,7 +1,7 @@
 use Rattle.std.proofs.Common.{Some, length, sym, subst, ◌<◌, arith}
 use Rattle.std.proofs.lemmas.List.Elements.{Contains-get_or}
 use Rattle.std.specs.List.{Contains}
-use Rattle.keep.specs.declared.change.IndexText.{IndexText}
+use Rattle.book.specs.declared.change.IndexText.{IndexText}
 use Rattle.keep_tables.specs.AtHand.{NotesAtMost}
 use Rattle.keep_tables.proofs.AtHandLemmas.{forgotten, noted_more}
 use Rattle.keep_tables.proofs.text_prints.renew_prints.Goals as goal

@@ -6,7 +6,7 @@ use Rattle.sqlite.specs.State.{HasCleanDisk}
 use Rattle.tables.proofs.ReadLemmas.{on_err}
 use Rattle.suites.specs.Upload.{IsTextOf}
 use Rattle.tables_meaning.specs.Reads.{text_in}
-use Rattle.keep.proofs.Lists.{texts_more}
+use Rattle.book.proofs.Lists.{texts_more}
 use Rattle.tables_meaning.proofs.ReadsLemmas.{count_more, held_if_rested, mapped_more, rests_itself, rests_then, survives_itself, survives_rested, undone_if_rested, undone_rested}
 use Rattle.keep_tables.proofs.uploads.texts_of.Goals as goal
 

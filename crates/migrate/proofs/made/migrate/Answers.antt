@@ -1,7 +1,7 @@
 use Rattle.std.proofs.Common.{rules, ◌≡◌, ◌≤◌, IsTrue, All, inl, inr, sym, subst, ◌∙◌}
 use Rattle.sqlite.specs.Held.{state}
 use Rattle.sqlite.specs.State.{HasCleanDisk}
-use Rattle.keep.specs.Configured.{AreAlike}
+use Rattle.book.specs.Configured.{AreAlike}
 use Rattle.tables.specs.Schema.{no_schema}
 use Rattle.migrate.specs.Migrated.{old_config}
 use Rattle.migrate.proofs.MadeLemmas.{made_archive, made_book, made_whole}

@@ -5,7 +5,7 @@ use Rattle.std.proofs.lemmas.Result.{on_err_weaker}
 use Rattle.sqlite.specs.State.{HasCleanDisk, KeepsCommit}
 use Rattle.sqlite.specs.Held.{state}
 use Rattle.tables.proofs.TransactionLemmas.{keeps_then, on_err, on_ok}
-use Rattle.keep.specs.Book.{latest}
+use Rattle.book.specs.Book.{latest}
 use Rattle.tables_meaning.specs.Founding.{Founds}
 use Rattle.tables_meaning.proofs.AmendLemmas.{survives_both}
 use Rattle.tables_meaning.proofs.FoundLemmas.{keeps_if_founded}

@@ -1,6 +1,6 @@
 use Rattle.std.proofs.Common.{◌≤◌, ℕ, drop}
 use Rattle.std.specs.Prelude.{Contains}
-use Rattle.keep.specs.Book.{latest}
+use Rattle.book.specs.Book.{latest}
 use Rattle.tables_meaning.specs.Kept.{date_row}
 use Rattle.tables.specs.Rows.{rows_of}
 use Rattle.tables_audit.proofs.dates.date_of.Given as goal

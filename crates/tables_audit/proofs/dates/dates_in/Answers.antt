@@ -1,5 +1,5 @@
 use Rattle.std.proofs.Common.{◌≢◌, AllPairs, sym, subst}
-use Rattle.texts.proofs.Paths.{config_codenames}
+use Rattle.indices.proofs.Paths.{config_codenames}
 use Rattle.tables_audit.proofs.dates.dates_in.Goals as goal
 
 pub dates_of-requires : goal.dates_of-requires

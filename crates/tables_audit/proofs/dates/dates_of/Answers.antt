@@ -4,7 +4,7 @@ use Rattle.std.specs.Prelude.{All, Contains}
 use Rattle.std.proofs.lemmas.List.{length-append, length-take, take_all}
 use Rattle.std.proofs.lemmas.List.Elements.{All-append, All-get_or}
 use Rattle.std.proofs.lemmas.List.Sorted.{Contains-permutation, IsPermutation-sym}
-use Rattle.keep.specs.Book.{latest}
+use Rattle.book.specs.Book.{latest}
 use Rattle.tables_meaning.specs.Kept.{date_row}
 use Rattle.rules.specs.declared.suite.Suite.{Suite}
 use Rattle.tables.specs.Rows.{rows_of}

@@ -1,7 +1,7 @@
 use Rattle.std.proofs.Common.{◌≡◌, ◌≤◌, length, map, take}
 use Rattle.std.specs.List.{zip}
 use Rattle.std.specs.Prelude.{All, Contains}
-use Rattle.keep.specs.Book.{latest}
+use Rattle.book.specs.Book.{latest}
 use Rattle.tables_meaning.specs.Kept.{date_row}
 use Rattle.tables.specs.Rows.{rows_of}
 use Rattle.tables_audit.proofs.dates.dates_of.Given as goal

@@ -6,7 +6,7 @@ use Rattle.tables.specs.Rows.{Numbered}
 use Rattle.tables.specs.declared.rows.ItemRow.{ItemRow}
 use Rattle.tables.specs.declared.rows.Ref.{Ref}
 use Rattle.tables_read.specs.All.{tables_with}
-use Rattle.texts.proofs.Paths.{config_codenames}
+use Rattle.indices.proofs.Paths.{config_codenames}
 use Rattle.tables_audit.specs.Items.{AreShown, AreStopped}
 use Rattle.tables_audit.proofs.ItemsLemmas.{all_readable, items_fit, none_stopped}
 use Rattle.tables_audit.proofs.items.shelves_in.Goals as goal

@@ -7,7 +7,7 @@ use Rattle.tables_meaning.proofs.PathLemmas.{config_paths}
 use Rattle.rules.specs.Values.{ConfigValue}
 use Rattle.rules.specs.declared.suite.Suite.{Suite}
 use Rattle.suites.specs.Shelves.{ShelvesValue}
-use Rattle.texts.specs.Indices.{PathText, all_texts, texts_from}
+use Rattle.indices.specs.Indices.{PathText, all_texts, texts_from}
 use Rattle.tables_audit.specs.TextRows.{texts_in}
 use Rattle.tables_audit.proofs.TextsLemmas.{none_left, none_more, other_front, permuted_if, same_behind, some_case, texts_next, too_many}
 use Rattle.tables_audit.proofs.text_rows.are_texts.Goals as goal

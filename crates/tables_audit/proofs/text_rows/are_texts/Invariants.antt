@@ -1,7 +1,7 @@
 use Rattle.std.proofs.Common.{◌≡◌, ◌≤◌, ◌↔◌, IsPermutation, drop, length}
 use Rattle.std.specs.List.{zip}
 use Rattle.std.specs.Prelude.{All, Contains}
-use Rattle.texts.specs.Indices.{all_texts, texts_from}
+use Rattle.indices.specs.Indices.{all_texts, texts_from}
 use Rattle.tables_audit.specs.TextRows.{texts_in}
 use Rattle.tables_audit.proofs.text_rows.are_texts.Given as goal
 

@@ -4,7 +4,7 @@ use Rattle.std.proofs.lemmas.List.{drop_all}
 use Rattle.std.proofs.lemmas.List.Elements.{All-nil}
 use Rattle.rules.specs.declared.suite.Suite.{Suite}
 use Rattle.tables.specs.declared.rows.TextRow.{TextRow}
-use Rattle.texts.specs.Indices.{PathText}
+use Rattle.indices.specs.Indices.{PathText}
 use Rattle.tables_meaning.specs.Founding.{from_root}
 use Rattle.tables_matching.specs.Rows.{text_in}
 use Rattle.tables_audit.specs.TextRows.{texts_in}

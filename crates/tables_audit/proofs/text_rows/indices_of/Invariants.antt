@@ -1,5 +1,5 @@
 use Rattle.std.proofs.Common.{◌≡◌, map, take}
-use Rattle.texts.specs.Release.{index_of}
+use Rattle.indices.specs.Release.{index_of}
 use Rattle.tables_matching.specs.Rows.{text_in}
 use Rattle.tables_audit.proofs.text_rows.indices_of.Given as goal
 

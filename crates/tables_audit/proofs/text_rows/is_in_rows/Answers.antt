@@ -4,7 +4,7 @@ use Rattle.std.proofs.lemmas.List.{drop_all}
 use Rattle.sums.proofs.Members.{no_member}
 use Rattle.tables.specs.Rows.{Numbered}
 use Rattle.tables.specs.declared.rows.TextRow.{TextRow}
-use Rattle.texts.specs.Indices.{PathText}
+use Rattle.indices.specs.Indices.{PathText}
 use Rattle.tables_matching.specs.Rows.{text_in}
 use Rattle.tables_audit.specs.TextRows.{texts_in}
 use Rattle.tables_audit.proofs.AmongLemmas.{among_next}

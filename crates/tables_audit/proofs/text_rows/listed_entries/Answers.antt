@@ -1,8 +1,8 @@
 use Rattle.std.proofs.Common.{List, map, ap, ap₂, sym, ◌∙◌}
 use Rattle.std.proofs.lemmas.Result.{IfOk-weaker}
-use Rattle.texts.specs.Places.{place_entry, places_in}
-use Rattle.texts.specs.declared.places.IndexPlace.{IndexPlace}
-use Rattle.texts.proofs.Walk.{listed_by_place}
+use Rattle.indices.specs.Places.{place_entry, places_in}
+use Rattle.indices.specs.declared.index.IndexPlace.{IndexPlace}
+use Rattle.indices.proofs.Walk.{listed_by_place}
 use Rattle.tables_audit.proofs.text_rows.listed_entries.Goals as goal
 
 pub returns : goal.returns

@@ -1,5 +1,5 @@
 use Rattle.std.proofs.Common.{◌≡◌, map, take}
-use Rattle.texts.specs.Places.{place_entry}
+use Rattle.indices.specs.Places.{place_entry}
 use Rattle.tables_matching.specs.Rows.{text_in}
 use Rattle.tables_audit.proofs.text_rows.placed_entries.Given as goal
 

@@ -7,8 +7,8 @@ use Rattle.rules.specs.Values.{ConfigValue}
 use Rattle.rules.specs.declared.suite.Suite.{Suite}
 use Rattle.suites.specs.Shelves.{ShelvesValue}
 use Rattle.tables.specs.declared.rows.TextRow.{TextRow}
-use Rattle.texts.specs.Positions.{release_at}
-use Rattle.texts.specs.Release.{index_of, listed_texts}
+use Rattle.indices.specs.Positions.{release_at}
+use Rattle.indices.specs.Release.{index_of, listed_texts}
 use Rattle.tables_matching.specs.Rows.{text_in}
 use Rattle.tables_audit.specs.TextRows.{texts_in}
 use Rattle.tables_audit.proofs.TextsLemmas.{all_of_suite, suite_texts_made}

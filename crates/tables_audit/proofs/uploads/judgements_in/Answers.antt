@@ -1,7 +1,7 @@
 use Rattle.std.proofs.Common.{◌≡◌, List, None, Some, Vec, Global, All, Contains, map, ap, subst, ◌∙◌, arith, MatchBool}
 use Rattle.std.specs.List.{range_with_len}
 use Rattle.std.proofs.lemmas.Bool.Decides.{when_false, when_true}
-use Rattle.keep.specs.declared.change.Judgement.{Judgement}
+use Rattle.book.specs.declared.change.Judgement.{Judgement}
 use Rattle.tables.specs.Rows.{Numbered, rows_of}
 use Rattle.tables.specs.declared.rows.UploadRow.{UploadRow}
 use Rattle.tables_read.specs.All.{tables_with}

@@ -4,7 +4,7 @@ use Rattle.tables_read.specs.All.{tables_with}
 use Rattle.tables_audit.specs.Whole.{ShownFits}
 use Rattle.tables_audit.specs.Parts.{UploadsFit}
 use Rattle.std.specs.List.{zip}
-use Rattle.keep.specs.Book.{latest}
+use Rattle.book.specs.Book.{latest}
 use Rattle.tables_meaning.specs.Kept.{AreSigned, date_row}
 use Rattle.tables_audit.proofs.WholeLemmas.{at_some, no_shown, not_signed}
 use Rattle.tables_audit.proofs.whole.held_of.Goals as goal

@@ -1,7 +1,7 @@
 use Rattle.std.proofs.Common.{List, ap₂, subst, ◌∙◌}
 use Rattle.sqlite.specs.Held.{state}
-use Rattle.texts.specs.Places.{places_in}
-use Rattle.texts.specs.declared.places.IndexPlace.{IndexPlace}
+use Rattle.indices.specs.Places.{places_in}
+use Rattle.indices.specs.declared.index.IndexPlace.{IndexPlace}
 use Rattle.tables.proofs.TransactionLemmas.{on_ok}
 use Rattle.tables_meaning.specs.Founding.{Continues, placed_texts, with_texts}
 use Rattle.tables_changes.proofs.founding.insert_indices.Goals as goal

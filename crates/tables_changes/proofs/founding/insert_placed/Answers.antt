@@ -2,8 +2,8 @@ use Rattle.std.proofs.Common.{◌≤◌, ◌<◌, ◌+◌, List, length, map, ta
 use Rattle.std.proofs.Math.Seq.{take_all}
 use Rattle.sqlite.specs.Held.{state}
 use Rattle.sqlite.proofs.StateLemmas.{survives_then}
-use Rattle.texts.specs.Places.{place_entry}
-use Rattle.texts.specs.declared.places.IndexPlace.{IndexPlace}
+use Rattle.indices.specs.Places.{place_entry}
+use Rattle.indices.specs.declared.index.IndexPlace.{IndexPlace}
 use Rattle.tables.proofs.TransactionLemmas.{keeps_then, on_err}
 use Rattle.tables.proofs.ReadLemmas.{survives_none}
 use Rattle.tables_meaning.specs.Founding.{Continues, from_root, placed_texts, with_path_text, with_texts}

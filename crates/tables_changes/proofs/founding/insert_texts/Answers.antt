@@ -5,7 +5,7 @@ use Rattle.std.proofs.lemmas.Slice.Zip.{length-zip}
 use Rattle.sqlite.specs.Held.{state}
 use Rattle.sqlite.proofs.StateLemmas.{survives_then}
 use Rattle.rules.specs.declared.suite.Suite.{Suite}
-use Rattle.texts.specs.Indices.{texts_from}
+use Rattle.indices.specs.Indices.{texts_from}
 use Rattle.tables.proofs.TransactionLemmas.{keeps_then, on_err}
 use Rattle.tables.proofs.ReadLemmas.{survives_none}
 use Rattle.tables_meaning.specs.Founding.{Continues, suite_texts_at, with_texts}

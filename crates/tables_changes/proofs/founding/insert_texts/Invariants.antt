@@ -2,7 +2,7 @@ use Rattle.std.proofs.Common.{◌≡◌, IsTrue, take}
 use Rattle.std.specs.List.{zip}
 use Rattle.sqlite.specs.State.{HasCleanDisk, Survives}
 use Rattle.sqlite.specs.Held.{state}
-use Rattle.texts.specs.Indices.{texts_from}
+use Rattle.indices.specs.Indices.{texts_from}
 use Rattle.tables_meaning.specs.Founding.{Continues, with_texts}
 use Rattle.tables_changes.proofs.founding.insert_texts.Given as goal
 

@@ -4,8 +4,8 @@ use Rattle.std.proofs.Math.Logic.{∥∥₁_elim, ∥∥₁_map}
 use Rattle.sqlite.specs.Held.{state}
 use Rattle.sqlite.specs.State.{HasCleanDisk}
 use Rattle.suites.specs.Shelves.{ShelvesValue}
-use Rattle.keep.specs.Book.{dates_past, judgements}
-use Rattle.keep.proofs.Staying.{on_err}
+use Rattle.book.specs.Book.{dates_past, judgements}
+use Rattle.book.proofs.Staying.{on_err}
 use Rattle.tables.specs.Rows.{tables_in}
 use Rattle.tables_meaning.specs.Archives.{KeepsArchive, book_in_database}
 use Rattle.tables_meaning.specs.Kept.{book_in}

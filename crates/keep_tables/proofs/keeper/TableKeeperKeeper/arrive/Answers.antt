@@ -14,10 +14,10 @@ use Rattle.keep_tables.proofs.AtOnceLemmas.{at_once_tells, none_under}
 use Rattle.keep_tables.proofs.UnderWayLemmas.{stopped, undone_kept, undone_under}
 use Rattle.std.specs.Option.{option_map}
 use Rattle.std.proofs.lemmas.Result.{IfOk-weaker, on_err_weaker, on_ok_weaker}
-use Rattle.keep.specs.Book.{Book, at_moment, has_arrival, with_delivery}
-use Rattle.keep.specs.Keeping.{HasBodies}
-use Rattle.keep.proofs.Pieces.{all_come, piece_length, piece_more, some_left, whole_more}
-use Rattle.keep.proofs.Staying.{lasts_on, left_arriving, left_staying, on_err, stays_on}
+use Rattle.book.specs.Book.{Book, at_moment, has_arrival, with_delivery}
+use Rattle.book.specs.Keeping.{HasBodies}
+use Rattle.book.proofs.Pieces.{all_come, piece_length, piece_more, some_left, whole_more}
+use Rattle.book.proofs.Staying.{lasts_on, left_arriving, left_staying, on_err, stays_on}
 use Rattle.keep_tables.proofs.KeeperWords.{clean_in, faults_in, kept_in, may_leave_in, open_in}
 use Rattle.keep_tables.proofs.keeper.TableKeeperKeeper.arrive.Goals as goal
 

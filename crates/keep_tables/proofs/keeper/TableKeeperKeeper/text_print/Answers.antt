@@ -4,7 +4,7 @@ use Rattle.std.proofs.Props.{props}
 use Rattle.std.specs.Option.{option_map}
 use Rattle.sqlite.specs.Held.{state}
 use Rattle.sums.specs.Prints.{print as print_of}
-use Rattle.texts.specs.Indices.{index_text}
+use Rattle.indices.specs.Indices.{index_text}
 use Rattle.tables.specs.Rows.{tables_in}
 use Rattle.tables_meaning.specs.Kept.{book_in}
 use Rattle.tables_meaning.specs.Shown.{shown_in}

@@ -1,6 +1,6 @@
 use Rattle.std.proofs.Common.{rules, ◌∙◌}
 use Rattle.std.proofs.lemmas.Fn.{always_returns_same}
-use Rattle.keep.specs.Book.{judging_order}
+use Rattle.book.specs.Book.{judging_order}
 use Rattle.tables_audit.specs.Signs.{sign_of}
 use Rattle.tables_audit.specs.declared.uploads.signs.Sign.{Sign}
 use Rattle.tables_audit.proofs.SignsLemmas.{found_among}

@@ -2,10 +2,10 @@ use Rattle.std.proofs.Common.{◌≡◌, MatchBool, map, ap, sym, subst₂, ◌�
 use Rattle.sqlite_keyed.proofs.ListLemmas.{map-map}
 use Rattle.sqlite_keyed.proofs.SortLemmas.{sort_by-map}
 use Rattle.tables.specs.Wants.{is_wanted_by}
-use Rattle.tables_meaning.specs.Kept.{want_order}
+use Rattle.tables_meaning.specs.Kept.{want_order, entry_order}
 use Rattle.tables_meaning.specs.Reads.{sorted_by}
 use Rattle.tables_matching.specs.Rows.{want_row}
-use Rattle.tables_audit.specs.Uploads.{entry_order, printed, wanted_among, wants_among}
+use Rattle.tables_audit.specs.Uploads.{printed, wanted_among, wants_among}
 use Rattle.tables_audit.proofs.KeyedLemmas.{rows_same}
 use Rattle.tables_audit.proofs.uploads.wanted.are_wanted_by.Goals as goal
 

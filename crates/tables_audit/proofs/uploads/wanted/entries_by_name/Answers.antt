@@ -3,8 +3,8 @@ use Rattle.std.proofs.lemmas.Cmp.{on_total}
 use Rattle.sqlite_keyed.proofs.SortLemmas.{sort_by-map}
 use Rattle.suites.specs.Keys.{text_order}
 use Rattle.suites.specs.KeyLemmas.{text_order_total}
-use Rattle.tables_audit.specs.Uploads.{entry_order}
 use Rattle.tables_meaning.proofs.SortedLemmas.{sorted_same}
+use Rattle.tables_meaning.specs.Kept.{entry_order}
 use Rattle.tables_audit.proofs.uploads.wanted.entries_by_name.Goals as goal
 
 pub returns : goal.returns

@@ -3,7 +3,7 @@ use Rattle.sqlite.specs.State.{HasCleanDisk}
 use Rattle.sqlite.specs.Held.{state}
 use Rattle.std.specs.List.{enumerate_from}
 use Rattle.std.proofs.lemmas.List.FromFn.{length-enumerate_from}
-use Rattle.keep.specs.Scan.{some_touches}
+use Rattle.book.specs.Scan.{some_touches}
 use Rattle.tables.specs.Dates.{with_new_date}
 use Rattle.tables_meaning.proofs.AmendLemmas.{one_more, all_made, survives_both, numbered_at}
 use Rattle.tables_changes.proofs.amending.renewing.renew_dates.Goals as goal

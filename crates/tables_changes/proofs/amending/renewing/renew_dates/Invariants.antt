@@ -4,7 +4,7 @@ use Rattle.sqlite.specs.Held.{state}
 use Rattle.sqlite.specs.State.{HasCleanDisk, Survives}
 use Rattle.tables_meaning.specs.Amending.{Makes}
 use Rattle.tables_meaning.proofs.AmendLemmas.{so_far}
-use Rattle.keep.specs.Scan.{some_touches}
+use Rattle.book.specs.Scan.{some_touches}
 use Rattle.tables.specs.Dates.{with_new_date}
 use Rattle.tables_changes.proofs.amending.renewing.renew_dates.Given as goal
 

@@ -2,8 +2,8 @@ use Rattle.std.proofs.Common.{ap, ◌∙◌, arith, ◌+◌, length, refl}
 use Rattle.sqlite.specs.State.{HasCleanDisk}
 use Rattle.sqlite.specs.Held.{state}
 use Rattle.tables.specs.Rows.{with_ref}
-use Rattle.tables_meaning.specs.Kept.{refs_for}
-use Rattle.tables_meaning.proofs.AmendLemmas.{one_more, all_made, survives_both, length_refs, numbered_ref, ref_at}
+use Rattle.tables_meaning.specs.Kept.{refs_for, ref_for}
+use Rattle.tables_meaning.proofs.AmendLemmas.{one_more, all_made, survives_both, length_refs, ref_at}
 use Rattle.tables_changes.proofs.amending.showing.put_files.Goals as goal
 
 pub loop-at-preserved : goal.loop-at-preserved
@@ -17,7 +17,7 @@ loop-at-preserved g c =
       made = λ clean inside.
           let early : HasCleanDisk m = omega (arith, c.put_file.ensures.survives.clean, clean) in
           let was = c.loop-at.invariant.made early inside in
-          one_more (λ now r. with_ref r now) (refs_for c.args.id c.args.item.now) c.loop-at.at (numbered_ref c.args.id (c.loop-at.at + 1, c.index-files-at.result)) a m b (omega (arith, length_refs c.args.id c.args.item.now, ap length c.as_slice-files.ensures, c.loop-at-test.true)) (ref_at c.args.id c.args.item.now c.loop-at.at (c.loop-at.at + 1) c.index-files-at.result _ (rw c.as_slice-files.ensures at c.loop-at-test.true) (rw c.as_slice-files.ensures at c.index-files-at.is) (omega arith) refl) was (c.in_ok-put_file.ensures.ok clean was.mode);
+          one_more (λ now r. with_ref r now) (refs_for c.args.id c.args.item.now) c.loop-at.at (ref_for c.args.id (c.loop-at.at + 1, c.index-files-at.result)) a m b (omega (arith, length_refs c.args.id c.args.item.now, ap length c.as_slice-files.ensures, c.loop-at-test.true)) (ref_at c.args.id c.args.item.now c.loop-at.at (c.loop-at.at + 1) c.index-files-at.result _ (rw c.as_slice-files.ensures at c.loop-at-test.true) (rw c.as_slice-files.ensures at c.index-files-at.is) (omega arith) refl) was (c.in_ok-put_file.ensures.ok clean was.mode);
     }
 
 pub returns-clause-ok : goal.returns-clause-ok

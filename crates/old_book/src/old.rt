@@ -6,7 +6,7 @@ ghost use Rattle.tables_read.specs.All.{tables_with};
 ghost use Rattle.old_book.specs.Copying.{AreRising};
 ghost use Rattle.old_book.specs.Rising.{is_rising};
 
-use keep::Judgement;
+use book::Judgement;
 use rules::Config;
 use suites::Shelves;
 use tables_audit::Held;
@@ -24,7 +24,7 @@ pub struct OldBook {
 
 impl OldBook {
     ghost use Rattle.std.specs.Prelude.{◌≤◌, All};
-    ghost use Rattle.keep.specs.Book.{latest};
+    ghost use Rattle.book.specs.Book.{latest};
 
     /// The rows, as those of an archive of today.
     pub fn rows(&self) -> &AllRows
