@@ -2,4 +2,5 @@ pub mod RenewedShelves
 pub mod RenewedTexts
 pub mod RenewedSteps
 pub mod PrintedLemmas
+pub mod StanzaLemmas
 pub mod Renewed

@@ -5,28 +5,28 @@ use Rattle.std.specs.Prelude.{AllPairs, Contains, ⊤}
 use Rattle.std.proofs.lemmas.List.Elements.{Contains-append_cases, Contains-append_left, Contains-append_right}
 use Rattle.std.proofs.lemmas.List.Kept.{AllPairs-cons}
 use Rattle.std.proofs.lemmas.Slice.Eq.{bytes_eq-Decides}
-use Rattle.keep.specs.Book.{Book, amended, dates_past, is_kept, shown_past, text_at as book_text}
-use Rattle.keep.specs.Keeping.{AreRenewed, AreSteps}
-use Rattle.keep.specs.Scan.{some_touches}
-use Rattle.keep.specs.declared.change.Change.{Change}
-use Rattle.keep.specs.declared.change.IndexText.{IndexText}
-use Rattle.keep.specs.declared.change.Step.{Step}
-use Rattle.keep.proofs.Dates.{dated, dates_past-dated}
+use Rattle.book.specs.Book.{Book, amended, dates_past, is_kept, shown_past, text_at as book_text}
+use Rattle.book.specs.Keeping.{AreRenewed, AreSteps}
+use Rattle.book.specs.Scan.{some_touches}
+use Rattle.book.specs.declared.change.Change.{Change}
+use Rattle.book.specs.declared.change.IndexText.{IndexText}
+use Rattle.book.specs.declared.change.Step.{Step}
+use Rattle.book.proofs.Dates.{dated, dates_past-dated}
 use Rattle.rules.specs.Configuration.{config_in}
 use Rattle.rules.specs.declared.suite.Suite.{Suite}
 use Rattle.suites.specs.Shelves.{ShelvesValue}
 use Rattle.sums.proofs.Members.{all_at, all_from, contains_map, from_map, here, there, which, no_member, pairs_head}
-use Rattle.texts.proofs.Walk.{indices_by_place}
-use Rattle.texts.specs.Indices.{PathText, index_text, suite_texts, text_at, texts_from}
-use Rattle.texts.specs.Release.{index_of, indices_of, release_text}
-use Rattle.texts.proofs.Found.{found_front, none_front, text_at-found, text_at-other}
+use Rattle.indices.proofs.Walk.{indices_by_place}
+use Rattle.indices.specs.Indices.{PathText, index_text, suite_texts, text_at, texts_from}
+use Rattle.indices.specs.Release.{index_of, indices_of, release_text}
+use Rattle.indices.proofs.Found.{found_front, none_front, text_at-found, text_at-other}
 use Rattle.renewing.specs.Renewal.{folder_of, index_after, path_in, renewed_at, renewed_folder, renewed_from, renewed_index, renewed_suite, some_changes_index, text_after}
-use Rattle.texts.specs.Places.{place_path, place_text, places_in, place_entry}
+use Rattle.indices.specs.Places.{place_path, place_text, places_in, place_entry}
 use Rattle.renewing.specs.declared.renewal.Folder.{Folder}
-use Rattle.texts.specs.declared.places.IndexPlace.{IndexPlace}
-use Rattle.texts.proofs.Apart.{PathsDiffer, found_of_apart, none_of_others}
-use Rattle.texts.proofs.Pairs.{into_flat, pairs_across, pairs_append, pairs_map, pairs_none, same_map_over}
-use Rattle.texts.proofs.Paths.{AreNamed, IsNamed, config_named, folders, index_or_release, places_apart, named_rest}
+use Rattle.indices.specs.declared.index.IndexPlace.{IndexPlace}
+use Rattle.indices.proofs.Apart.{PathsDiffer, found_of_apart, none_of_others}
+use Rattle.indices.proofs.Pairs.{into_flat, pairs_across, pairs_append, pairs_map, pairs_none, same_map_over}
+use Rattle.indices.proofs.Paths.{AreNamed, IsNamed, config_named, folders, index_or_release, places_apart, named_rest}
 use Rattle.renewing.proofs.RenewedShelves.{same_past, untouched_index}
 use Rattle.renewing.proofs.RenewedTexts.{Listed, all_apart, entries_are, entries_of, of_folder, one_covers, placed, released}
 

@@ -1,25 +1,25 @@
 -- The steps of the functions that find the texts that are other than the kept ones.
-use Rattle.std.proofs.Common.{◌≡◌, ℕ, ◌+◌, ◌<◌, Bool, true, false, if◌then◌else◌, List, [], ◌∷◌, ◌++◌, length, drop, take, get_or, slice_get, map, Option, Some, None, unwrap_or, refl, sym, ap, ◌∙◌, append_assoc, append-nil, arith}
+use Rattle.std.proofs.Common.{◌≡◌, ℕ, ◌+◌, ◌<◌, Bool, true, false, if◌then◌else◌, List, [], ◌∷◌, ◌++◌, length, drop, take, get_or, slice_get, map, Option, Some, None, unwrap_or, refl, sym, ap, ◌∙◌, append_assoc, append-nil}
 use Rattle.std.specs.List.{flat_map}
 use Rattle.std.specs.Option.{option_map, option_map_or}
 use Rattle.std.proofs.lemmas.List.{drop_more, map-append, take_more}
-use Rattle.std.proofs.lemmas.Option.{get_or_from_slice_get, same_Some, slice_get-get_or}
-use Rattle.keep.specs.Scan.{some_touches}
+use Rattle.std.proofs.lemmas.Option.{get_or_from_slice_get, same_Some}
+use Rattle.book.specs.Scan.{some_touches}
 use Rattle.rules.specs.Values.{ConfigValue}
 use Rattle.rules.specs.declared.suite.Suite.{Suite}
-use Rattle.texts.specs.Positions.{release_at}
-use Rattle.texts.specs.Release.{release_text}
+use Rattle.indices.specs.Positions.{release_at}
+use Rattle.indices.specs.Release.{release_text}
 use Rattle.std.proofs.lemmas.Grind.{flat_map-append}
-use Rattle.keep.specs.declared.change.IndexText.{IndexText}
-use Rattle.keep.specs.declared.change.Step.{Step}
+use Rattle.book.specs.declared.change.IndexText.{IndexText}
+use Rattle.book.specs.declared.change.Step.{Step}
 use Rattle.sums.specs.Prints.{print}
 use Rattle.sums.specs.declared.print.Print.{Print}
 use Rattle.suites.specs.Shelves.{ShelvesValue}
-use Rattle.texts.specs.declared.index.Index.{Index}
+use Rattle.indices.specs.declared.index.Index.{Index}
 use Rattle.renewing.specs.Renewal.{folder_of, index_after, path_in, print_kept, renewed_folder, renewed_from, renewed_index, renewed_suite, some_changes_index, text_after}
-use Rattle.texts.specs.Places.{place_path, place_text}
+use Rattle.indices.specs.Places.{place_path, place_text}
 use Rattle.renewing.specs.declared.renewal.Folder.{Folder}
-use Rattle.texts.specs.declared.places.IndexPlace.{IndexPlace}
+use Rattle.indices.specs.declared.index.IndexPlace.{IndexPlace}
 
 abbrev index : List ℕ → Print → Index
 index path print = record { path = path; print = print }
@@ -96,7 +96,3 @@ module _ (old : List ℕ → Option (List ℕ)) (shelves : ShelvesValue) (steps 
       ap (λ b. xs ++ ((if b then renewed_suite old shelves steps moment i s else []) ++ to_come (i + 1))) (sym untouched)
       ∙ ap (λ zs. xs ++ zs) (sym (one_more s (sym (get_or_from_slice_get suites i s s at))))
       ∙ so_far
-
-pub suite_there : (suites : List Suite) (i : ℕ) → i < length suites → (s : Suite) × (slice_get suites i ≡ Some s)
-suite_there [] i h = absurd (omega arith)
-suite_there (s ∷ ss) i h = (get_or (s ∷ ss) i s, slice_get-get_or (s ∷ ss) i s h)

@@ -6,25 +6,27 @@ use Rattle.std.specs.List.{flat_map}
 use Rattle.std.specs.Prelude.{AllPairs, Contains}
 use Rattle.std.proofs.lemmas.List.Elements.{Contains-append_cases}
 use Rattle.std.proofs.lemmas.Slice.Eq.{bytes_eq-Decides}
-use Rattle.keep.specs.Book.{is_kept}
-use Rattle.keep.specs.Scan.{some_touches}
-use Rattle.keep.specs.declared.change.IndexText.{IndexText}
-use Rattle.keep.specs.declared.change.Step.{Step}
+use Rattle.std.proofs.lemmas.Simd.{map-map}
+use Rattle.book.specs.Book.{is_kept}
+use Rattle.book.specs.Scan.{some_touches}
+use Rattle.book.specs.declared.change.IndexText.{IndexText}
+use Rattle.book.specs.declared.change.Step.{Step}
 use Rattle.rules.specs.declared.suite.Suite.{Suite}
 use Rattle.suites.specs.Shelves.{ShelvesValue}
+use Rattle.suites.proofs.ListMembers.{from_flat_map}
 use Rattle.sums.specs.Prints.{print}
 use Rattle.sums.specs.declared.print.Print.{Print}
 use Rattle.sums.proofs.Members.{all_at, here, there, which, no_member, pairs_head}
-use Rattle.texts.proofs.Walk.{map_twice, listed_by_place}
-use Rattle.texts.specs.Indices.{PathText, folder_texts, suite_path, suite_texts}
-use Rattle.texts.specs.Release.{indices_of, release_text}
-use Rattle.texts.specs.declared.index.Index.{Index}
+use Rattle.indices.proofs.Walk.{listed_by_place}
+use Rattle.indices.specs.Indices.{PathText, folder_texts, suite_path, suite_texts}
+use Rattle.indices.specs.Release.{indices_of, release_text}
+use Rattle.indices.specs.declared.index.Index.{Index}
 use Rattle.renewing.specs.Renewal.{folder_of, index_after, path_in, renewed_at, renewed_folder, renewed_from, renewed_index, renewed_suite, some_changes_index, text_to_keep}
-use Rattle.texts.specs.Places.{place_path, place_text, places_in, place_entry}
+use Rattle.indices.specs.Places.{place_path, place_text, places_in, place_entry}
 use Rattle.renewing.specs.declared.renewal.Folder.{Folder}
-use Rattle.texts.specs.declared.places.IndexPlace.{IndexPlace}
-use Rattle.texts.proofs.Pairs.{in_flat, pairs_append, pairs_flat, pairs_none, pairs_one}
-use Rattle.texts.proofs.Paths.{AreNamed, NoSlash, folders, index_or_release, places_apart, named_rest}
+use Rattle.indices.specs.declared.index.IndexPlace.{IndexPlace}
+use Rattle.indices.proofs.Pairs.{pairs_append, pairs_flat, pairs_none, pairs_one}
+use Rattle.indices.proofs.Paths.{AreNamed, NoSlash, folders, index_or_release, places_apart, named_rest}
 
 -- ---- the texts of a suite, place by place
 
@@ -41,7 +43,7 @@ pub entries_are : (shelves : ShelvesValue) (suite : ℕ) (s : Suite) (date : ℕ
 unfolding suite_texts folder_texts
 entries_are shelves suite s date =
     ap (λ (es : List PathText). released shelves suite s date ∷ map (λ (e : PathText). (suite_path s e.0, e.1)) es) (listed_by_place shelves suite s)
-    ∙ ap (λ (es : List PathText). released shelves suite s date ∷ es) (map_twice (λ (e : PathText). (suite_path s e.0, e.1)) (place_entry shelves suite) (places_in s.components s.architectures))
+    ∙ ap (λ (es : List PathText). released shelves suite s date ∷ es) (map-map (λ (e : PathText). (suite_path s e.0, e.1)) (place_entry shelves suite) (places_in s.components s.architectures))
 
 -- ---- what is renewed
 
@@ -129,7 +131,7 @@ module _ (old : List ℕ → Option (List ℕ)) (shelves : ShelvesValue) (steps 
           → ((p : IndexPlace) × OfPlace f t p) ⊎ OfRelease f (release (map (index_after old shelves steps f) f.places)) t
       by_case false h = no_member t h
       by_case true h = elim (Contains-append_cases (flat_map (renewed_index old shelves steps f) f.places) _ t h) [
-        | inl listed ↦ let found = in_flat (renewed_index old shelves steps f) f.places t listed in inl (found.0, of_index f found.0 t found.1 found.2)
+        | inl listed ↦ let found = from_flat_map (renewed_index old shelves steps f) t f.places listed in inl (found.0, of_index f found.0 t found.1 found.2)
         | inr own ↦
             let one = renewed_one (old (path_in f (codes "Release"))) (path_in f (codes "Release")) (release (map (index_after old shelves steps f) f.places)) t own in
             inr (one.0, one.1, still t _ _ one.0 one.1 one.2)
@@ -169,7 +171,7 @@ module _ (old : List ℕ → Option (List ℕ)) (shelves : ShelvesValue) (steps 
           places)
           (one_apart (old (path_in f (codes "Release"))) (path_in f (codes "Release")) _)
           (λ t u listed own e.
-          let found = in_flat (renewed_index old shelves steps f) f.places t listed in
+          let found = from_flat_map (renewed_index old shelves steps f) t f.places listed in
           let first = of_index f found.0 t found.1 found.2 in
           let second = renewed_one (old (path_in f (codes "Release"))) (path_in f (codes "Release")) _ u own in
           index_or_release (found.0).component (found.0).architecture

@@ -1,2 +1,3 @@
 pub mod Renewal
 pub mod Printed
+pub mod Stanzas

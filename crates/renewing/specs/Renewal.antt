@@ -3,22 +3,22 @@ use Rattle.std.specs.Prelude.{ℕ, ◌+◌, Bool, ◌||◌, if◌then◌else◌,
 use Rattle.std.proofs.Common.{refl}
 use Rattle.std.specs.List.{flat_map, list_any}
 use Rattle.rules.specs.declared.suite.Suite.{Suite}
-use Rattle.keep.specs.Book.{is_kept}
-use Rattle.keep.specs.Scan.{some_touches}
-use Rattle.keep.specs.declared.change.IndexText.{IndexText}
-use Rattle.keep.specs.declared.change.Step.{Step}
+use Rattle.book.specs.Book.{is_kept}
+use Rattle.book.specs.Scan.{some_touches}
+use Rattle.book.specs.declared.change.IndexText.{IndexText}
+use Rattle.book.specs.declared.change.Step.{Step}
 use Rattle.sums.specs.Prints.{print}
 use Rattle.sums.specs.declared.print.Print.{Print}
 use Rattle.suites.specs.Shelves.{ShelvesValue}
 use Rattle.suites.specs.declared.item.Item.{Item}
 use Rattle.suites.specs.declared.key.ShelfKey.{ShelfKey}
 use Rattle.suites.specs.declared.plan.Plan.{Plan}
-use Rattle.texts.specs.Release.{index_of, is_source, release_text}
+use Rattle.indices.specs.Release.{index_of, is_source, release_text}
 use Rattle.indices.specs.Listed.{is_in_packages, is_in_sources}
-use Rattle.texts.specs.Indices as indices
-use Rattle.texts.specs.Places.{place_path, place_text, places_in}
-use Rattle.texts.specs.declared.index.Index.{Index}
-use Rattle.texts.specs.declared.places.IndexPlace.{IndexPlace}
+use Rattle.indices.specs.Indices as indices
+use Rattle.indices.specs.Places.{place_path, place_text, places_in}
+use Rattle.indices.specs.declared.index.Index.{Index}
+use Rattle.indices.specs.declared.index.IndexPlace.{IndexPlace}
 use Rattle.renewing.specs.declared.renewal.Folder.{Folder}
 
 -- ---- which indices a step changes

@@ -8,22 +8,22 @@
 
 ghost use Rattle.std.specs.Prelude.{◌≡◌, ◌⊎◌, ◌≤◌, ◌<◌, All, IfOk, IfErr, IfSome, OnOk, Some, length, false, string_bytes, slice_get};
 ghost use Rattle.std.specs.Option.{option_and_then};
-ghost use Rattle.keep.specs.Book.{latest};
-ghost use Rattle.keep.specs.Configured.{IsConfiguration, date_under, dates_under, keeps_shown, shown_under};
-ghost use Rattle.keep.specs.Keeping.{MayAnswer, Reads};
-ghost use Rattle.keep.specs.declared.fault.KeepFault.TheVariants.{Configuration};
+ghost use Rattle.book.specs.Book.{latest};
+ghost use Rattle.book.specs.Configured.{IsConfiguration, date_under, dates_under, keeps_shown, shown_under};
+ghost use Rattle.book.specs.Keeping.{MayAnswer, Reads};
+ghost use Rattle.book.specs.declared.fault.KeepFault.TheVariants.{Configuration};
 ghost use Rattle.rules.specs.Suites.{suite_named};
 ghost use Rattle.rules.specs.declared.suite.Suite.{Suite as SuiteValue};
 ghost use Rattle.std.specs.FinMap.{values};
 ghost use Rattle.suites.specs.Pool.{AreAgreed, files_of};
-ghost use Rattle.texts.specs.Indices.{suite_path};
-ghost use Rattle.texts.specs.Positions.{indices_at, release_at};
+ghost use Rattle.indices.specs.Indices.{suite_path};
+ghost use Rattle.indices.specs.Positions.{indices_at, release_at};
 
-use keep::{Configured, IndexText, KeepFault, Keeper, LATEST};
+use book::{Configured, IndexText, KeepFault, Keeper, LATEST};
 use rules::{Config, Suite, position_of_named};
 use std::alloc::{AllocError, Global};
 use suites::{Shelves, moved_shelves};
-use texts::{indices_of, path_in, release};
+use texts::{path_in, release_of};
 
 /// The date at a position.
 fn date_at(dates: &[u64], position: usize) -> Option<u64>
@@ -57,27 +57,9 @@ fn path_of(alloc: Global, suite: &Suite, path: &str) -> Result<String, AllocErro
     path_in(alloc, suite.codename.as_str(), path)
 }
 
-/// The Release, with this date, of the suite at a position of a configuration.
-fn release_of(
-    alloc: Global,
-    config: &Config,
-    shelves: &Shelves,
-    position: usize,
-    date: u64,
-) -> Result<Vec<u8>, AllocError>
-    requires suite { position < length config.now.suites }
-    requires date { date ≤ latest }
-    ensures { IfOk result (λ text. text.items ≡ release_at config.now position date (indices_at config.now shelves.now position)) }
-{
-    let indices = indices_of(alloc, config, shelves, position)?;
-    let mut text = Vec::new(alloc);
-    release(alloc, config, position, date, &indices, &mut text)?;
-    Ok(text)
-}
-
 /// The date of the suite at a position of another configuration, under which the shelves show what the archive shows. It is the date that
 /// the suite has, if its Release with that date is the one that is kept. Otherwise it is the moment.
-#[tactic(auto, unfolding(keep::specs::Configured::date_under, keep::specs::Configured::date_of, texts::specs::Positions::release_at, texts::specs::Positions::indices_at))]
+#[tactic(auto, unfolding(book::specs::Configured::date_under, book::specs::Configured::date_of, indices::specs::Positions::release_at, indices::specs::Positions::indices_at))]
 fn date_under<K: Keeper>(
     alloc: Global,
     keeper: &mut K,

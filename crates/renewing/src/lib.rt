@@ -2,9 +2,11 @@
 #![tactic(auto)]
 
 mod configuring;
+mod last;
 mod printed;
 mod renewal;
+mod stanzas;
 
 pub use configuring::configured;
-pub use printed::PrintedText;
+pub use last::LastTexts;
 pub use renewal::renewed_texts;

@@ -5,25 +5,27 @@
 
 ghost use Rattle.std.specs.Prelude.{◌≡◌, ◌≤◌, ◌<◌, ◌++◌, Bool, List, ℕ, IfOk, IfErr, OnOk, is_some, length, map, slice_get, Some, [], option_map, unwrap_or, string_bytes, if◌then◌else◌};
 ghost use Rattle.std.specs.List.{flat_map, list_any};
-ghost use Rattle.keep.specs.Book.{amended, latest, shown_past, text_at};
-ghost use Rattle.keep.specs.Keeping.{AreRenewed, AreSteps, MayAnswer, Reads};
-ghost use Rattle.keep.specs.declared.change.Change.{Change};
+ghost use Rattle.book.specs.Book.{amended, latest, shown_past, text_at};
+ghost use Rattle.book.specs.Keeping.{AreRenewed, AreSteps, MayAnswer, Reads};
+ghost use Rattle.book.specs.declared.change.Change.{Change};
 ghost use Rattle.rules.specs.declared.suite.Suite.{Suite as SuiteValue};
 ghost use Rattle.sums.specs.Prints.{print};
-ghost use Rattle.texts.specs.Positions.{release_at};
-ghost use Rattle.texts.specs.Release.{index_of};
+ghost use Rattle.indices.specs.Positions.{release_at};
+ghost use Rattle.indices.specs.Release.{index_of};
 ghost use Rattle.renewing.specs.Renewal.{changes_index, folder_of, index_after, index_with, is_listed, path_in, print_kept, renewed_at, renewed_folder, renewed_from, renewed_index, renewed_suite, some_changes_index, text_after};
-ghost use Rattle.texts.specs.Places.{place_at, place_path, place_text, places_in};
+ghost use Rattle.indices.specs.Places.{place_at, place_path, place_text, places_in};
 
-use crate::printed::{PrintedText, print_next};
+use crate::last::LastTexts;
+use crate::printed::print_next;
+use crate::stanzas::listed_text_of;
+use book::{IndexText, KeepFault, Keeper, Step, some_changes_suite};
 use indices::{lists_package, lists_source};
-use keep::{IndexText, KeepFault, Keeper, Step, some_changes_suite};
 use para::{Listed, Text};
 use rules::Suite;
 use std::alloc::{AllocError, Global};
 use suites::{Item, Plan, ShelfKey, Shelves};
 use sums::{Print, print_of};
-use texts::{Index, IndexPlace, index_path, listed_text, path_in, places_of, release};
+use texts::{Index, IndexPlace, index_path, path_in, places_of, release};
 
 /// A suite as its paths name it: its position in the configuration, its codename, and the places of its indices.
 #[derive(Drop)]
@@ -166,7 +168,7 @@ struct Amendment<'a> {
 fn renew_index<K: Keeper>(
     alloc: Global,
     keeper: &mut K,
-    printed: &mut Vec<PrintedText>,
+    last: &mut LastTexts,
     amendment: &Amendment<'_>,
     folder: &Folder,
     place: &IndexPlace,
@@ -185,14 +187,15 @@ fn renew_index<K: Keeper>(
     if !some_changes_index(amendment.steps, folder.suite, place) {
         return index_kept(alloc, keeper, path, whole);
     }
-    let text = listed_text(
+    let text = listed_text_of(
         alloc,
+        &mut last.stanzas,
         amendment.shelves,
         folder.suite,
         component,
         architecture,
     )?;
-    let print = print_next(alloc, printed, whole.as_str(), &text)?;
+    let print = print_next(alloc, &mut last.printed, whole.as_str(), &text)?;
     let text = IndexText::with_print(whole, text, print);
     push_renewed(alloc, keeper, text, texts)?;
     Ok(Index {
@@ -205,7 +208,7 @@ fn renew_index<K: Keeper>(
 fn renew_indices<K: Keeper>(
     alloc: Global,
     keeper: &mut K,
-    printed: &mut Vec<PrintedText>,
+    last: &mut LastTexts,
     amendment: &Amendment<'_>,
     folder: &Folder,
     texts: &mut Vec<IndexText>,
@@ -218,7 +221,7 @@ fn renew_indices<K: Keeper>(
 {
     let mut indices = Vec::new(alloc);
     for place in folder.places.as_slice() {
-        let index = renew_index(alloc, keeper, printed, amendment, folder, place, texts)?;
+        let index = renew_index(alloc, keeper, last, amendment, folder, place, texts)?;
         indices.push(index)?;
     }
     Ok(indices)
@@ -241,7 +244,7 @@ fn has_text<K: Keeper>(alloc: Global, keeper: &mut K, path: &str) -> Result<bool
 fn renew_folder<K: Keeper>(
     alloc: Global,
     keeper: &mut K,
-    printed: &mut Vec<PrintedText>,
+    last: &mut LastTexts,
     amendment: &Amendment<'_>,
     folder: &Folder,
     texts: &mut Vec<IndexText>,
@@ -257,7 +260,7 @@ fn renew_folder<K: Keeper>(
     if !has_text(alloc, keeper, path.as_str())? {
         return Ok(());
     }
-    let indices = renew_indices(alloc, keeper, printed, amendment, folder, texts)?;
+    let indices = renew_indices(alloc, keeper, last, amendment, folder, texts)?;
     let mut text = Vec::new(alloc);
     release(
         alloc,
@@ -274,7 +277,7 @@ fn renew_folder<K: Keeper>(
 fn renew_suite<K: Keeper>(
     alloc: Global,
     keeper: &mut K,
-    printed: &mut Vec<PrintedText>,
+    last: &mut LastTexts,
     amendment: &Amendment<'_>,
     suite: usize,
     texts: &mut Vec<IndexText>,
@@ -288,14 +291,14 @@ fn renew_suite<K: Keeper>(
     ensures cause { IfErr result (MayAnswer K.may_fail) }
 {
     let folder = folder_of(alloc, suite, &keeper.config().suites()[suite])?;
-    renew_folder(alloc, keeper, printed, amendment, &folder, texts)
+    renew_folder(alloc, keeper, last, amendment, &folder, texts)
 }
 
 /// The texts of the suites that a step of an amendment touches, if they differ from the kept ones.
 fn renewed_suites<K: Keeper>(
     alloc: Global,
     keeper: &mut K,
-    printed: &mut Vec<PrintedText>,
+    last: &mut LastTexts,
     amendment: &Amendment<'_>,
 ) -> Result<Vec<IndexText>, KeepFault>
     requires { amendment.now.moment ≤ latest }
@@ -307,7 +310,7 @@ fn renewed_suites<K: Keeper>(
     let mut texts = Vec::new(alloc);
     for suite in 0..keeper.config().suites().len() {
         if some_changes_suite(amendment.steps, suite) {
-            renew_suite(alloc, keeper, printed, amendment, suite, &mut texts)?;
+            renew_suite(alloc, keeper, last, amendment, suite, &mut texts)?;
         }
     }
     Ok(texts)
@@ -315,12 +318,13 @@ fn renewed_suites<K: Keeper>(
 
 /// The index texts that steps make different from the kept ones, for steps that leave these shelves and are made at the moment, in
 /// seconds since 1970-01-01 00:00:00 UTC. In a suite that a step touches, the indices are rendered whose items a plan puts or drops, the
-/// keeper gives the prints of the others, and Release gets the moment as its date. Nothing is read of other suites. The print of an
-/// index goes on from what was printed before it at its path.
+/// keeper gives the prints of the others, and Release gets the moment as its date. Nothing is read of other suites. What is kept of the texts
+/// that were made last spares time: the stanza of an item that did not change is copied, and the print of an index goes on from what was
+/// printed before it at its path.
 pub fn renewed_texts<K: Keeper>(
     alloc: Global,
     keeper: &mut K,
-    printed: &mut Vec<PrintedText>,
+    last: &mut LastTexts,
     shelves: &Shelves,
     steps: &[Step],
     moment: u64,
@@ -340,5 +344,5 @@ pub fn renewed_texts<K: Keeper>(
         steps,
         moment,
     };
-    renewed_suites(alloc, keeper, printed, &amendment)
+    renewed_suites(alloc, keeper, last, &amendment)
 }

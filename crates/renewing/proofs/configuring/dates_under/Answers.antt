@@ -5,10 +5,10 @@ use Rattle.std.proofs.lemmas.List.Elements.{All-push}
 use Rattle.std.proofs.lemmas.Option.{slice_get-get_or}
 use Rattle.std.specs.List.{enumerate_from}
 use Rattle.rules.specs.declared.suite.Suite.{Suite}
-use Rattle.keep.specs.Book.{Book, latest}
-use Rattle.keep.specs.Configured.{date_under}
-use Rattle.keep.proofs.ReadLemmas.{reads_more}
-use Rattle.renewing.proofs.RenewedSteps.{suite_there}
+use Rattle.book.specs.Book.{Book, latest}
+use Rattle.book.specs.Configured.{date_under}
+use Rattle.book.proofs.ReadLemmas.{reads_more}
+use Rattle.suites.proofs.MovedLemmas.{suite_there}
 use Rattle.renewing.proofs.configuring.dates_under.Goals as goal
 
 -- one more date

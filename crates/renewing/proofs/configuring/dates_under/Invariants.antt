@@ -1,8 +1,8 @@
 use Rattle.std.proofs.Common.{◌≡◌, ◌≤◌, ◌++◌, All, drop, length, map}
 use Rattle.std.specs.List.{enumerate_from}
-use Rattle.keep.specs.Book.{latest}
-use Rattle.keep.specs.Configured.{date_under, dates_under}
-use Rattle.keep.specs.Keeping.{Reads}
+use Rattle.book.specs.Book.{latest}
+use Rattle.book.specs.Configured.{date_under, dates_under}
+use Rattle.book.specs.Keeping.{Reads}
 use Rattle.renewing.proofs.configuring.dates_under.Given as goal
 
 abbrev pub invariant-loop-position : goal.invariant-loop-position

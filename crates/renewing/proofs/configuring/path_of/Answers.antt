@@ -1,6 +1,6 @@
 use Rattle.std.proofs.Common.{ap, ◌∙◌}
 use Rattle.std.proofs.lemmas.Result.{IfOk-weaker}
-use Rattle.texts.specs.Indices.{path_in}
+use Rattle.indices.specs.Indices.{path_in}
 use Rattle.renewing.proofs.configuring.path_of.Goals as goal
 
 pub returns : goal.returns

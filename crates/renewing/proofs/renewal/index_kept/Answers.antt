@@ -2,7 +2,7 @@ use Rattle.std.proofs.Common.{[], string_bytes, ap, ◌∙◌}
 use Rattle.std.specs.Prelude.{unwrap_or}
 use Rattle.std.specs.Option.{option_map}
 use Rattle.sums.specs.Prints.{print}
-use Rattle.keep.specs.Book.{text_at}
+use Rattle.book.specs.Book.{text_at}
 use Rattle.renewing.specs.Renewal.{index_with}
 use Rattle.renewing.proofs.RenewedSteps.{print_or}
 use Rattle.renewing.proofs.renewal.index_kept.Goals as goal

@@ -1,5 +1,5 @@
 use Rattle.std.proofs.Common.{sym, ◌∙◌}
-use Rattle.keep.specs.Book.{text_at}
+use Rattle.book.specs.Book.{text_at}
 use Rattle.renewing.proofs.RenewedTexts.{pushed_other}
 use Rattle.renewing.proofs.renewal.push_renewed.Goals as goal
 

@@ -1,7 +1,7 @@
 use Rattle.std.proofs.Common.{◌++◌, Result, Ok, Err, OnOk, append-nil, string_bytes, refl, sym, ap, ◌∙◌}
 use Rattle.std.proofs.lemmas.Result.{IfOk-weaker}
-use Rattle.keep.specs.Book.{text_at}
-use Rattle.texts.specs.Release.{index_path}
+use Rattle.book.specs.Book.{text_at}
+use Rattle.indices.specs.Release.{index_path}
 use Rattle.renewing.specs.Renewal.{path_in, print_kept}
 use Rattle.renewing.proofs.RenewedSteps.{kept_index, kept_texts}
 use Rattle.renewing.proofs.renewal.renew_index.Goals as goal

@@ -1,8 +1,8 @@
 use Rattle.std.proofs.Common.{◌≡◌, ◌++◌, ◌<◌, List, length, get_or, ap, ◌∙◌, arith}
-use Rattle.keep.specs.Book.{Book, text_at}
+use Rattle.book.specs.Book.{Book, text_at}
 use Rattle.renewing.specs.Renewal.{index_after, renewed_index}
-use Rattle.texts.specs.declared.places.IndexPlace.{IndexPlace}
-use Rattle.keep.proofs.ReadLemmas.{reads_more}
+use Rattle.indices.specs.declared.index.IndexPlace.{IndexPlace}
+use Rattle.book.proofs.ReadLemmas.{reads_more}
 use Rattle.renewing.proofs.RenewedSteps.{gathered_more, mapped_more}
 use Rattle.renewing.proofs.renewal.renew_indices.Goals as goal
 

@@ -1,7 +1,7 @@
 use Rattle.std.proofs.Common.{◌≡◌, ◌++◌, map, take}
 use Rattle.std.specs.List.{flat_map}
-use Rattle.keep.specs.Book.{text_at}
-use Rattle.keep.specs.Keeping.{Reads}
+use Rattle.book.specs.Book.{text_at}
+use Rattle.book.specs.Keeping.{Reads}
 use Rattle.renewing.specs.Renewal.{index_after, renewed_index}
 use Rattle.renewing.proofs.renewal.renew_indices.Given as goal
 

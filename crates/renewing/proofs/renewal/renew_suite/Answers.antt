@@ -1,7 +1,7 @@
 use Rattle.std.proofs.Common.{◌≡◌, ◌++◌, List, Some, length, get_or, slice_get, refl, ap, ◌∙◌}
 use Rattle.std.proofs.lemmas.Option.{slice_get_read}
 use Rattle.std.proofs.lemmas.Result.{on_ok_weaker}
-use Rattle.keep.specs.Book.{text_at}
+use Rattle.book.specs.Book.{text_at}
 use Rattle.rules.specs.Values.{ConfigValue}
 use Rattle.rules.specs.declared.suite.Suite.{Suite}
 use Rattle.renewing.proofs.RenewedSteps.{of_suite}

@@ -1,11 +1,12 @@
 use Rattle.std.proofs.Common.{◌≡◌, ◌++◌, ◌<◌, ◌≤◌, List, length, slice_get, sym, ap, ◌∙◌, arith}
 use Rattle.std.proofs.lemmas.List.{append-nil, drop_all}
-use Rattle.keep.specs.Book.{Book, text_at}
+use Rattle.book.specs.Book.{Book, text_at}
 use Rattle.rules.specs.Values.{ConfigValue}
 use Rattle.rules.specs.declared.suite.Suite.{Suite}
+use Rattle.suites.proofs.MovedLemmas.{suite_there}
 use Rattle.renewing.specs.Renewal.{renewed_from, renewed_suite}
-use Rattle.keep.proofs.ReadLemmas.{reads_more}
-use Rattle.renewing.proofs.RenewedSteps.{suite_there, touched_suite, untouched_suite}
+use Rattle.book.proofs.ReadLemmas.{reads_more}
+use Rattle.renewing.proofs.RenewedSteps.{touched_suite, untouched_suite}
 use Rattle.renewing.proofs.renewal.renewed_suites.Goals as goal
 use Rattle.renewing.proofs.renewal.renewed_suites.Goals.{then-some_changes_suite+in_ok-renew_suite, else-some_changes_suite}
 

@@ -1,6 +1,6 @@
 use Rattle.std.proofs.Common.{◌≡◌, ◌++◌, drop}
-use Rattle.keep.specs.Book.{text_at}
-use Rattle.keep.specs.Keeping.{Reads}
+use Rattle.book.specs.Book.{text_at}
+use Rattle.book.specs.Keeping.{Reads}
 use Rattle.renewing.specs.Renewal.{renewed_from}
 use Rattle.renewing.proofs.renewal.renewed_suites.Given as goal
 

@@ -1,7 +1,7 @@
 use Rattle.std.proofs.Common.{◌≡◌, Ok, sym, subst}
 use Rattle.std.proofs.lemmas.Result.{IfOk-weaker}
-use Rattle.keep.specs.Book.{amended}
-use Rattle.keep.specs.Keeping.{AreRenewed}
+use Rattle.book.specs.Book.{amended}
+use Rattle.book.specs.Keeping.{AreRenewed}
 use Rattle.rules.specs.Configuration.{config_in}
 use Rattle.rules.specs.Values.{ConfigValue}
 use Rattle.renewing.proofs.Renewed.{all_renewed}
