@@ -2,11 +2,11 @@
 use Rattle.std.proofs.Common.{◌≡◌, ◌⊎◌, ℕ, Bool, List, [], ◌∷◌, Option, Some, Ok, inl, inr, refl, sym, ap, subst, ◌∙◌}
 use Rattle.std.specs.Prelude.{⊤}
 use Rattle.suites.specs.Shelves.{ShelvesValue}
-use Rattle.keep.specs.Book.{Book, amended, shown_past}
-use Rattle.keep.specs.Keeping.{Apart, AreRenewed, AreSteps, HasBodies, HasEachBody, IsSound, Lasts, Leaves, Reads}
-use Rattle.keep.specs.declared.change.Change.{Change}
-use Rattle.keep.specs.declared.change.IndexText.{IndexText}
-use Rattle.keep.specs.declared.change.Step.{Step}
+use Rattle.book.specs.Book.{Book, amended, shown_past}
+use Rattle.book.specs.Keeping.{Apart, AreRenewed, AreSteps, HasBodies, HasEachBody, IsSound, Lasts, Leaves, Reads}
+use Rattle.book.specs.declared.change.Change.{Change}
+use Rattle.book.specs.declared.change.IndexText.{IndexText}
+use Rattle.book.specs.declared.change.Step.{Step}
 use Rattle.history.specs.Amending.{IsPlanned, OnceAmended, steps_at}
 use Rattle.history.specs.Answers.{IsFaithful, IsStep, answer}
 use Rattle.history.specs.Archives.{Stands, book_of}

@@ -6,8 +6,8 @@ use Rattle.rules.specs.Values.{ConfigValue}
 use Rattle.suites.specs.Pool.{AreAgreed, files_of}
 use Rattle.suites.specs.Shelves.{ShelvesValue}
 use Rattle.suites.proofs.MovedLemmas.{agreed_moved, pool_moved}
-use Rattle.keep.specs.Book.{Book, HasItsFiles}
-use Rattle.keep.specs.Configured.{configured, dates_under, keeps_shown, reconfigured, shown_under}
+use Rattle.book.specs.Book.{Book, HasItsFiles}
+use Rattle.book.specs.Configured.{configured, dates_under, keeps_shown, reconfigured, shown_under}
 use Rattle.history.specs.Answers.{IsFaithful}
 use Rattle.history.specs.Archives.{Stands, book_of}
 use Rattle.history.specs.Configuring.{reopened}

@@ -4,7 +4,7 @@ use Rattle.std.specs.Prelude.{Contains}
 use Rattle.std.specs.FinMap.{entries, get, values, get-from_entries}
 use Rattle.std.specs.List.{list_any}
 use Rattle.std.proofs.lemmas.List.Elements.{Contains-append_cases}
-use Rattle.keep.specs.Keeping.{NoCollision}
+use Rattle.book.specs.Keeping.{NoCollision}
 use Rattle.rules.specs.Judgement.{component}
 use Rattle.rules.specs.Suites.{claiming}
 use Rattle.rules.specs.Values.{ConfigValue}
@@ -20,9 +20,9 @@ use Rattle.suites.specs.Pool.{files_with}
 use Rattle.suites.specs.Shelves.{beats, covers, shown}
 use Rattle.suites.specs.Upload.{UploadValue, items_of}
 use Rattle.suites.specs.Verdict.{path_of}
+use Rattle.suites.proofs.FileMembers.{member_found, member_get}
 use Rattle.history.specs.Archives.{BodyItem, PlainArchive, WholeUpload, by_body, contents_of, items_given, pool_in, shown_in, version_with, whole, with_admitted}
 use Rattle.history.proofs.ContentsListed.{HasItsBodies}
-use Rattle.history.proofs.ContentsMaps.{Contains-get, find-Contains}
 use Rattle.history.proofs.ItemPrints.{verdict_in}
 use Rattle.history.proofs.ItemPrintsFiles.{items_listed}
 use Rattle.history.proofs.ItemPrintsRows.{listed_contents, no_row_applies}
@@ -53,9 +53,9 @@ pub shown_member : (xs : List (Admitted (List ℕ))) (e : Admitted (List ℕ)) �
 unfolding shown
 shown_member xs e at =
     let items = held (covers version_with) (beats version_with) xs in
-    let found : get (shown version_with xs) e.0 ≡ Some e.1 = Contains-get key_order_total key_order-IsAntisymmetric (shown version_with xs) e at in
+    let found : get (shown version_with xs) e.0 ≡ Some e.1 = member_get key_order_total (shown version_with xs) e at in
     held_behind_member (covers version_with) (beats version_with) [] xs e
-    (find-Contains key_order_total key_order-IsAntisymmetric e.0 items e.1 (sym (get-from_entries key_order_total items e.0) ∙ found))
+    (member_found key_order-IsAntisymmetric e.0 e.1 items (sym (get-from_entries key_order_total items e.0) ∙ found))
 
 -- ---- the pool
 
@@ -73,7 +73,7 @@ files_member items path body at =
 pub pool_file : (a : PlainArchive) (path body : List ℕ) → get (pool_in a) path ≡ Some body → Contains (files_with (values (shown_in a))) (path, body)
 pool_file a path body h =
     let files = files_with (values (shown_in a)) in
-    find-Contains text_order_total text_order-IsAntisymmetric path files body (sym (get-from_entries text_order_total files path) ∙ h)
+    member_found text_order-IsAntisymmetric path body files (sym (get-from_entries text_order_total files path) ∙ h)
 
 -- a file of the pool is one of an item that is shown
 pub pool_item : (a : PlainArchive) (path body : List ℕ) → get (pool_in a) path ≡ Some body

@@ -2,12 +2,12 @@
 use Rattle.std.proofs.Common.{◌≡◌, ◌≢◌, ◌⊎◌, ℕ, Bool, true, false, cond, List, [], ◌∷◌, length, zip, find, Option, Some, None, option_map, refl, sym, ap, ◌∙◌, subst, inl, inr, arith}
 use Rattle.std.specs.Prelude.{All, AllPairs, Contains}
 use Rattle.std.specs.Str.{bytes_eq}
-use Rattle.std.proofs.lemmas.Option.{same_Some}
 use Rattle.std.proofs.lemmas.Slice.Eq.{bytes_eq-Decides}
 use Rattle.sums.proofs.Members.{here, there, which, no_member, by_name, all_at}
 use Rattle.sums.specs.Prints.{print as print_of}
 use Rattle.sums.specs.declared.entries.Entry.{Entry}
 use Rattle.suites.specs.Upload.{entry_named}
+use Rattle.book.proofs.Finds.{found_in, found_passes}
 use Rattle.history.specs.Archives.{WholeUpload, listed_body}
 
 -- An upload has a body for each of its entries, of the print that the entry lists, and no two entries have one name.
@@ -18,17 +18,9 @@ pub record HasItsBodies (w : WholeUpload) : Type 0 where
 
 -- ---- searches
 
-found_one : {X : Type 0} (p : X → Bool) (x y : X) (xs : List X) (b : Bool) → p x ≡ b → cond b (Some x) (find p xs) ≡ Some y
-    → (find p xs ≡ Some y → Contains xs y × (p y ≡ true)) → Contains (x ∷ xs) y × (p y ≡ true)
-found_one p x y xs true t h more =
-    let same : x ≡ y = same_Some x y h in
-    (subst (λ z. Contains (x ∷ xs) z) same (here x xs), ap p (sym same) ∙ t)
-found_one p x y xs false t h more = let m = more h in (there x y xs m.0, m.1)
-
 -- what a search finds is a member that passes
 pub find_member : {X : Type 0} (p : X → Bool) (xs : List X) (y : X) → find p xs ≡ Some y → Contains xs y × (p y ≡ true)
-find_member p [] y h = cc
-find_member p (x ∷ xs) y h = found_one p x y xs (p x) refl h (find_member p xs y)
+find_member p xs y h = (found_in p xs y h, found_passes p xs y h)
 
 missed : {X : Type 0} (p : X → Bool) (x y : X) (xs : List X) (b : Bool) → p x ≡ b → cond b (Some x) (find p xs) ≡ None → p y ≡ true → Contains (x ∷ xs) y
     → (find p xs ≡ None → Contains xs y → ⊥) → ⊥
@@ -113,12 +105,6 @@ cases_by w name whole (Some p) h =
 
 pub listed_cases : (w : WholeUpload) (name : List ℕ) → HasItsBodies w → HasListed w name ⊎ HasNoListed w name
 listed_cases w name whole = cases_by w name whole (found_pair w name) refl
-
-pub named_entry : (name : List ℕ) (entries : List Entry) (e : Entry) → entry_named name entries ≡ Some e → Contains entries e × (e.name ≡ name)
-unfolding entry_named
-named_entry name entries e h =
-    let m = find_member (λ (e : Entry). bytes_eq e.name name) entries e h in
-    (m.0, (bytes_eq-Decides e.name name).0 m.1)
 
 pub unnamed_entry : (name : List ℕ) (entries : List Entry) (e : Entry) → entry_named name entries ≡ None → Contains entries e → e.name ≡ name → ⊥
 unfolding entry_named

@@ -1,12 +1,11 @@
 -- An upload whose listed files have all arrived comes with its bodies.
-use Rattle.std.proofs.Common.{◌≡◌, ◌≢◌, ℕ, Bool, true, List, [], ◌∷◌, map, zip, find, Option, Some, None, option_map, unwrap_or, Result, Ok, Err, refl, sym, ap, ◌∙◌, subst, inl, inr}
+use Rattle.std.proofs.Common.{◌≡◌, ◌≢◌, ℕ, Bool, true, List, [], ◌∷◌, map, zip, find, Option, Some, None, option_map, unwrap_or, refl, sym, ap, ◌∙◌, subst, inl, inr}
 use Rattle.std.specs.Prelude.{AllPairs, Contains, bytes_eq}
 use Rattle.std.specs.List.{list_any}
 use Rattle.std.specs.Result.{result_ok}
 use Rattle.std.proofs.lemmas.List.{length-map}
-use Rattle.std.proofs.lemmas.Option.{same_Some}
-use Rattle.keep.specs.Book.{Candidate, body_for, is_body_of, is_complete, is_there, upload_of}
-use Rattle.keep.specs.declared.arrival.Arrival.{Arrival}
+use Rattle.book.specs.Book.{Candidate, body_for, is_body_of, is_complete, is_there, upload_of}
+use Rattle.book.specs.declared.arrival.Arrival.{Arrival}
 use Rattle.sums.specs.Lines.{greatest_size}
 use Rattle.records.proofs.RecordRead.{changes_of_read}
 use Rattle.records.specs.Records.{changes_in}
@@ -19,6 +18,7 @@ use Rattle.history.specs.Archives.{whole_of}
 use Rattle.history.proofs.Contents.{AreBrought}
 use Rattle.history.proofs.ContentsListed.{HasItsBodies, find_member, find_none}
 use Rattle.suites.proofs.Prints.{same_print-equal}
+use Rattle.suites.proofs.Refusals.{was_read}
 
 pub found_by : {X : Type 0} (p : X → Bool) (xs : List X) → list_any p xs ≡ true → (o : Option X) → find p xs ≡ o → (x : X) × (find p xs ≡ Some x) × Contains xs x × (p x ≡ true)
 found_by p xs h None e = let m = any_some p xs h in absurd (find_none p xs m.0 e m.1 m.2)
@@ -56,11 +56,7 @@ from_zip_map f (x ∷ xs) p at = elim (which (x, f x) p (zip xs (map f xs)) at) 
 
 -- a record that was read has no two entries of one name
 pub read_names : (text : List ℕ) (c : ChangesValue) → result_ok (changes_in text) ≡ Some c → AllPairs (λ a b. a.name ≢ b.name) c.entries
-read_names text c h = let read = changes_of_read greatest_size text c (ok (changes_in text) h) in read.made.entries.listed.names
-  where
-    ok : {E : Type 0} (r : Result ChangesValue E) → result_ok r ≡ Some c → r ≡ Ok c
-    ok (Ok d) e = ap Ok (same_Some d c e)
-    ok (Err f) e = cc
+read_names text c h = let read = changes_of_read greatest_size text c (was_read (changes_in text) c h) in read.made.entries.listed.names
 
 -- an upload that is complete comes with its bodies
 pub whole_of-bodies : (arrivals : List Arrival) (c : Candidate) → result_ok (changes_in c.body) ≡ Some c.changes → is_complete arrivals c ≡ true → HasItsBodies (whole_of arrivals c)

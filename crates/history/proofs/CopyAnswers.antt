@@ -14,13 +14,14 @@ use Rattle.suites.specs.Shelves.{ShelvesValue}
 use Rattle.suites.specs.Told.{AreTold}
 use Rattle.suites.specs.declared.plan.Plan.{Plan}
 use Rattle.suites.proofs.ToldLemmas.{told_after_copy}
-use Rattle.keep.specs.Book.{Book, amended, at_moment, due, judgements, latest, shown_past}
-use Rattle.keep.specs.Keeping.{AreSteps, HasEachBody, sign_of, sign_on}
-use Rattle.keep.specs.declared.change.Step.{Step}
+use Rattle.suites.specs.Plan.{is_of_source}
+use Rattle.book.specs.Book.{Book, amended, at_moment, due, judgements, latest, shown_past}
+use Rattle.book.specs.Keeping.{AreSteps, HasEachBody, sign_of, sign_on}
+use Rattle.book.specs.declared.change.Step.{Step}
 use Rattle.history.specs.Amending.{IsPlanned, OnceAmended, steps_at}
 use Rattle.history.specs.Answers.{IsAnswer, IsFaithful, IsKept, IsStep, answer, is_free_copy, is_refused}
 use Rattle.history.specs.Archives.{Stands, archive, book_from, book_of, is_shown_of, shown_by_print, shown_in, suite_named}
-use Rattle.history.specs.Copies.{AreSuites, IsCopy, copy_fault, is_item_of, shows_source, source_fault, suites_fault}
+use Rattle.history.specs.Copies.{AreSuites, IsCopy, copy_fault, shows_source, source_fault, suites_fault}
 use Rattle.history.specs.Deliveries.{or_else}
 use Rattle.history.specs.Histories.{Copying, Count, History, followed}
 use Rattle.history.specs.declared.fault.Fault.{Fault}
@@ -76,7 +77,7 @@ no_fault book config shelves from to source moment f t in_time is_config is_show
 -- ---- refusals
 
 shows_in : (h : History) (from : ℕ) (source : List ℕ) → list_any (is_shown_of from source) (entries (shown_in (archive h))) ≡ shows_source (shown_by_print (archive h)) from source
-unfolding shows_source is_item_of
+unfolding shows_source is_of_source
 shows_in h from source = sym (shown_of-printed (archive h) from source)
 
 module _ (may_fail : Bool) (h : History) (from to source : List ℕ) (moment : ℕ) (fault : Fault) where
@@ -199,7 +200,7 @@ module _ (may_fail : Bool) (h : History) (from to source : List ℕ) (moment f t
       (copy_has h from to source moment f t old plan stands faithful copy.sound copy.step)
 
   does : (is_open : Type 0) (new : Book) → new ≡ amended old (steps_at moment made) → IsStep may_fail h (Copying from to source moment) (Ok (Count (length plan.put))) is_open new
-  unfolding shows_source is_item_of
+  unfolding shows_source is_of_source
   does is_open new is =
       copy_step may_fail h from to source moment f t is_open old new plan stands faithful (le-ltb latest moment in_time) copy.sound suites.from_named suites.to_named suites.other copy.shows copy.step
       (is ∙ ap (λ xs. amended old (steps_at moment xs)) is_steps)

@@ -1,9 +1,9 @@
 -- Items that are shown one after another, and tests of them.
-use Rattle.std.proofs.Common.{◌≡◌, ◌||◌, Bool, true, false, List, [], ◌∷◌, ◌++◌, map, refl, sym, ap, ◌∙◌, append_assoc, append-nil}
+use Rattle.std.proofs.Common.{◌≡◌, ◌||◌, Bool, true, false, List, [], ◌∷◌, ◌++◌, map, refl, sym, ap, ◌∙◌, append-nil}
 use Rattle.std.specs.List.{list_any}
 use Rattle.std.proofs.lemmas.List.{map-append}
-use Rattle.suites.proofs.HeldLemmas.{any-append, or_none}
-use Rattle.std.proofs.lemmas.Bool.{or_right, or_left}
+use Rattle.suites.proofs.HeldLemmas.{any-append}
+use Rattle.std.proofs.lemmas.Bool.{or_right, or_left, or_from}
 
 module _ {A X : Type 0} (shows : A → X) (test : X → Bool) where
   -- if none passes, and one more fails the test, still none passes
@@ -11,15 +11,7 @@ module _ {A X : Type 0} (shows : A → X) (test : X → Bool) where
   none_more before x none failed =
       ap (list_any test) (map-append shows before (x ∷ []))
       ∙ any-append test (map shows before) (shows x ∷ [])
-      ∙ or_none (list_any test (map shows before)) (test (shows x) || false) none (or_none (test (shows x)) false failed refl)
-
-  -- one more has been shown, and stands at the front of what was left
-  pub shown_more : (before : List A) (x : A) (rest behind all : List X) → rest ≡ shows x ∷ behind → map shows before ++ rest ≡ all
-      → map shows (before ++ x ∷ []) ++ behind ≡ all
-  shown_more before x rest behind all e h =
-      ap (λ xs. xs ++ behind) (map-append shows before (x ∷ []))
-      ∙ append_assoc (map shows before) (shows x ∷ []) behind
-      ∙ ap (λ xs. map shows before ++ xs) (sym e) ∙ h
+      ∙ or_from (list_any test (map shows before)) (test (shows x) || false) none (or_from (test (shows x)) false failed refl)
 
   -- if one passes, one of all passes
   pub some_shown : (before : List A) (x : A) (rest behind all : List X) → rest ≡ shows x ∷ behind → map shows before ++ rest ≡ all

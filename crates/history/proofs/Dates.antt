@@ -1,47 +1,43 @@
 -- The dates of suites: what a suite shows changes if a plan touches it.
 use Rattle.std.proofs.Common.{◌≡◌, ◌≢◌, ◌⊎◌, ℕ, Bool, true, false, cond, not, ◌&&◌, ◌||◌, List, [], ◌∷◌, ◌++◌, map, Option, Some, None, option_map, is_some, nat_eq, refl, sym, ap, ◌∙◌, subst, inl, inr, append_assoc, append-nil}
 use Rattle.std.specs.Prelude.{Contains}
-use Rattle.std.specs.Cmp.{IsTotalOrder, tied_itself}
+use Rattle.std.specs.Cmp.{IsTotalOrder, tied_itself, eq_by_cmp_equiv}
 use Rattle.std.specs.FinMap.{FinMap, IsAntisymmetric, entries, get, insert, remove, get-insert, get-remove}
 use Rattle.std.specs.List.{enumerate_from, list_any}
 use Rattle.std.specs.Option.{option_map_or}
 use Rattle.std.specs.Ordering.{eq_by_cmp, is_lt}
 use Rattle.std.specs.Str.{bytes_eq}
 use Rattle.std.specs.declared.cmp.Ordering.{Ordering}
-use Rattle.std.specs.declared.cmp.Ordering.TheVariants.{Less, Equal, Greater}
+use Rattle.std.specs.declared.cmp.Ordering.TheVariants.{Equal}
 use mathlib.Core.Path.{fun_ext}
 use Rattle.std.proofs.lemmas.Bool.Decides.{Decides-eqb}
 use Rattle.std.proofs.lemmas.Option.{same_Some}
 use Rattle.std.proofs.lemmas.Slice.Eq.{bytes_eq-Decides}
-use Rattle.keep.specs.Book.{dates_after, touches}
+use Rattle.book.specs.Book.{dates_after, touches}
 use Rattle.sums.proofs.Booleans.{neither}
 use Rattle.sums.proofs.Members.{which, no_member, any_true, any_false, any_none, any_some, all_at}
 use Rattle.suites.specs.Change.{IsChange, with_all, without}
-use Rattle.suites.proofs.HeldLemmas.{by_pushes, or_true}
-use Rattle.std.proofs.lemmas.Bool.{or_left}
+use Rattle.suites.proofs.HeldLemmas.{by_pushes}
+use Rattle.std.proofs.lemmas.Bool.{or_left, or_cases}
 use Rattle.suites.specs.KeyLemmas.{key_order_total, key_order-IsAntisymmetric}
 use Rattle.suites.specs.Keys.{key_order}
 use Rattle.suites.specs.Shelves.{ShelvesValue, ShelvesWith, is_above, is_at_least, is_covered, shown}
-use Rattle.suites.proofs.ShownLemmas.{not_at_least, shown-push}
+use Rattle.suites.proofs.ShownLemmas.{not_at_least, shown-push, is_less}
 use Rattle.suites.specs.declared.item.Item.{Item}
 use Rattle.suites.specs.declared.key.ShelfKey.{ShelfKey}
 use Rattle.suites.specs.declared.plan.Plan.{Plan}
+use Rattle.suites.proofs.FileMembers.{get_member, member_get}
+use Rattle.suites.proofs.EntryLemmas.{same_keys}
 use Rattle.vers.proofs.Laws.{version_cmp_total}
 use Rattle.vers.specs.Order.{version_cmp}
 use Rattle.history.specs.Archives.{BodyItem, has_more, is_changed, version_with}
-use Rattle.history.proofs.ContentsMaps.{Contains-get, get-Contains, same_keys, tied_keys}
 use Rattle.history.proofs.ShownPrints.{printed_item}
 
 -- ---- versions
 
-below : (o : Ordering) → is_lt o ≡ true → o ≡ Less
-below Less h = refl
-below Equal h = cc
-below Greater h = cc
-
 above-trans : (u v w : List ℕ) → is_above u v ≡ true → is_above v w ≡ true → is_above u w ≡ true
 unfolding is_above
-above-trans u v w p q = ap is_lt (version_cmp_total.trans w v u (below (version_cmp w v) q) (below (version_cmp v u) p))
+above-trans u v w p q = ap is_lt (version_cmp_total.trans w v u (is_less (version_cmp w v) q) (is_less (version_cmp v u) p))
 
 -- a greater version has another text
 pub above-other : (v w : List ℕ) → is_above v w ≡ true → bytes_eq w v ≡ false
@@ -81,7 +77,7 @@ module _ {X : Type 0} (version : X → List ℕ) where
   inserted : (m : ShelvesWith X) (a : ShelfKey × X) (q : ShelfKey) (x : X) → get m q ≡ Some x → is_covered version m a ≡ false
       → (b : Bool) → eq_by_cmp key_order q a.0 ≡ b → (y : X) × (cond b (Some a.1) (get m q) ≡ Some y) × IsHeir x y
   inserted m a q x h uncovered true tied =
-      let there : get m a.0 ≡ Some x = ap (get m) (sym (tied_keys key_order_total key_order-IsAntisymmetric q a.0 tied)) ∙ h in
+      let there : get m a.0 ≡ Some x = ap (get m) (sym (same_keys key_order-IsAntisymmetric q a.0 tied)) ∙ h in
       let less : is_at_least (version x) (version a.1) ≡ false = sym (ap (λ o. option_map_or (λ x. is_at_least (version x) (version a.1)) o false) there) ∙ uncovered in
       (a.1, refl, inr (not_at_least (version x) (version a.1) less))
   inserted m a q x h uncovered false apart = (x, h, inl refl)
@@ -129,7 +125,7 @@ module _ {K X : Type 0} {R : K → K → Ordering} (total : IsTotalOrder R) (sam
       by_case : (b : Bool) → list_any (λ (e : K × X). eq_by_cmp R q e.0) es ≡ b → (e : K × X) × Contains es e × (q ≡ e.0)
       by_case true some =
           let e = any_some (λ (e : K × X). eq_by_cmp R q e.0) es some in
-          (e.0, e.1, tied_keys total same q (e.0).0 e.2)
+          (e.0, e.1, same_keys same q (e.0).0 e.2)
       by_case false none = cc (sym h ∙ sym (without_apart m es q none) ∙ gone)
 
   kept_there : (m : FinMap R X) (es : List (K × X)) (q : K) → is_some (get m q) ≡ true → is_some (get (with_all m es) q) ≡ true
@@ -149,7 +145,7 @@ module _ {K X : Type 0} {R : K → K → Ordering} (total : IsTotalOrder R) (sam
   put_there m (f ∷ fs) e at = elim (which f e fs at) [
     | inl is ↦ kept_there (insert m f.0 f.1) fs e.0
         (ap is_some (get-insert total m f.0 f.1 e.0)
-        ∙ ap (λ b. is_some (cond b (Some f.1) (get m e.0))) (same_keys total same e.0 f.0 (sym (ap (λ (x : K × X). x.0) is))))
+        ∙ ap (λ b. is_some (cond b (Some f.1) (get m e.0))) (ap (λ k. eq_by_cmp R e.0 k) (ap (λ (x : K × X). x.0) is) ∙ (eq_by_cmp_equiv total).refl e.0))
     | inr rest ↦ put_there (insert m f.0 f.1) fs e rest
   ]
 
@@ -163,14 +159,14 @@ more_at : (suite : ℕ) (old new : ShelvesWith BodyItem) (q : ShelfKey) (y : Bod
 unfolding has_more
 more_at suite old new q y h at other =
     any_true (λ (e : ShelfKey × BodyItem). nat_eq e.0.suite suite && not (has_version (get old e.0) e.1)) (entries new) (q, y)
-    (get-Contains key_order_total key_order-IsAntisymmetric new q y h)
+    (get_member key_order-IsAntisymmetric new q y h)
     (let at_suite : nat_eq q.suite suite ≡ true = (Decides-eqb q.suite suite).1 at in rw (at_suite, other) refl)
 
 pub no_more : (suite : ℕ) (old new : ShelvesWith BodyItem) → ((q : ShelfKey) (y : BodyItem) → get new q ≡ Some y → q.suite ≡ suite → has_version (get old q) y ≡ true) → has_more suite old new ≡ false
 unfolding has_more
 no_more suite old new h =
     any_none (λ (e : ShelfKey × BodyItem). nat_eq e.0.suite suite && not (has_version (get old e.0) e.1)) (entries new)
-    (λ e at. by_case e (Contains-get key_order_total key_order-IsAntisymmetric new e at) (nat_eq e.0.suite suite) refl)
+    (λ e at. by_case e (member_get key_order_total new e at) (nat_eq e.0.suite suite) refl)
   where
     by_case : (e : ShelfKey × BodyItem) → get new e.0 ≡ Some e.1 → (b : Bool) → nat_eq e.0.suite suite ≡ b → (b && not (has_version (get old e.0) e.1)) ≡ false
     by_case e found true at = ap not (h e.0 e.1 found ((Decides-eqb e.0.suite suite).0 at))
@@ -237,13 +233,13 @@ module _ (suite : ℕ) (old new : ShelvesWith BodyItem) (before after : ShelvesV
         where
           by_case : (e : ShelfKey × Item) → Contains es e → (b : Bool) → eq_by_cmp key_order q e.0 ≡ b → b ≡ false
           by_case e listed true tied =
-              let same : e.0.suite ≡ suite = sym (ap (λ (k : ShelfKey). k.suite) (tied_keys key_order_total key_order-IsAntisymmetric q e.0 tied)) ∙ at in
+              let same : e.0.suite ≡ suite = sym (ap (λ (k : ShelfKey). k.suite) (same_keys key_order-IsAntisymmetric q e.0 tied)) ∙ at in
               cc (sym ((Decides-eqb e.0.suite suite).1 same) ∙ any_false (λ (e : ShelfKey × Item). nat_eq e.0.suite suite) es e none listed)
           by_case e listed false apart = refl
 
   touched_changes : touches suite plan ≡ true → has_more suite old new ≡ true
   unfolding touches
-  touched_changes h = elim (or_true (list_any (λ (e : ShelfKey × Item). nat_eq e.0.suite suite) plan.put) (list_any (λ (e : ShelfKey × Item). nat_eq e.0.suite suite) plan.dropped) h) [
+  touched_changes h = elim (or_cases (list_any (λ (e : ShelfKey × Item). nat_eq e.0.suite suite) plan.put) (list_any (λ (e : ShelfKey × Item). nat_eq e.0.suite suite) plan.dropped) h) [
     | inl put ↦
         let e = any_some (λ (e : ShelfKey × Item). nat_eq e.0.suite suite) plan.put put in
         put_changes e.0 e.1 ((Decides-eqb (e.0).0.suite suite).0 e.2) (get old (e.0).0) refl

@@ -5,13 +5,13 @@ use Rattle.std.specs.Cmp.{IsTotalOrder}
 use Rattle.std.specs.FinMap.{FinMap, IsAntisymmetric, entries, entries_sorted, find, get, get-entries, get-insert, get-remove, insert, is_sorted, remove}
 use Rattle.std.specs.FinMap.Entries.{below_all, same_entries}
 use Rattle.std.specs.List.{list_any}
-use Rattle.std.specs.Ordering.{eq_by_cmp, is_eq, is_lt}
+use Rattle.std.specs.Ordering.{eq_by_cmp, is_lt}
 use Rattle.std.specs.declared.cmp.Ordering.{Ordering}
-use Rattle.std.specs.declared.cmp.Ordering.TheVariants.{Less, Equal, Greater}
 use Rattle.std.proofs.lemmas.Bool.Decides.{Decides-eqb}
 use Rattle.std.proofs.lemmas.List.{length-map}
 use Rattle.std.proofs.lemmas.List.Elements.{Contains-append_left, Contains-push}
 use Rattle.std.proofs.lemmas.Option.{same_Some}
+use Rattle.std.proofs.lemmas.Bool.{and_from}
 use Rattle.sums.proofs.Booleans.{both}
 use Rattle.sums.proofs.Members.{all_at}
 use Rattle.suites.specs.Change.{IsChange, with_all, without}
@@ -23,8 +23,11 @@ use Rattle.suites.proofs.ShownLemmas.{shown-push, true_from_T}
 use Rattle.suites.specs.declared.item.Item.{Item}
 use Rattle.suites.specs.declared.key.ShelfKey.{ShelfKey}
 use Rattle.suites.specs.declared.plan.Plan.{Plan}
+use Rattle.suites.proofs.FileMembers.{member_found}
+use Rattle.suites.proofs.EntryLemmas.{same_keys, sorted-filter, tied_behind}
+use Rattle.suites.proofs.PassingEntries.{find-filter}
 use Rattle.history.specs.Archives.{BodyItem, version_with}
-use Rattle.history.proofs.ContentsMaps.{find-Contains, find-map, on_value, tied_keys}
+use Rattle.history.proofs.ContentsMaps.{find-map, on_value}
 use Rattle.history.proofs.Dates.{ArePrinted, Grows, IsHeir, above-other, has_version, same_version, some_printed, taken_out, with_all_apart}
 use Rattle.history.proofs.ShownPrints.{printed_item}
 
@@ -34,43 +37,7 @@ pub T_from_true : (b : Bool) → b ≡ true → T b
 T_from_true true h = tt
 T_from_true false h = cc
 
-both_true : (a b : Bool) → a ≡ true → b ≡ true → (a && b) ≡ true
-both_true true b p q = q
-both_true false b p q = cc
-
-less_unequal : (o : Ordering) → is_lt o ≡ true → is_eq o ≡ false
-less_unequal Less h = refl
-less_unequal Equal h = cc
-less_unequal Greater h = refl
-
 module _ {K X : Type 0} (R : K → K → Ordering) where
-  below_kept : (k : K) (e : K × X) (es : List (K × X)) (b : Bool) → below_all R k (e ∷ es) ≡ true → below_all R k es ≡ true → below_all R k (cond b (e ∷ es) es) ≡ true
-  below_kept k e es true h rest = h
-  below_kept k e es false h rest = rest
-
-  below_filter : (k : K) (p : K × X → Bool) (es : List (K × X)) → below_all R k es ≡ true → below_all R k (filter p es) ≡ true
-  below_filter k p [] h = refl
-  below_filter k p (e ∷ es) h =
-      let parts = both (is_lt (R k e.0)) (below_all R k es) h in
-      let rest = below_filter k p es parts.1 in
-      below_kept k e (filter p es) (p e) (both_true (is_lt (R k e.0)) (below_all R k (filter p es)) parts.0 rest) rest
-
-  sorted_kept : (e : K × X) (es : List (K × X)) (b : Bool) → below_all R e.0 es ≡ true → is_sorted R es ≡ true → is_sorted R (cond b (e ∷ es) es) ≡ true
-  sorted_kept e es true below sorted = both_true (below_all R e.0 es) (is_sorted R es) below sorted
-  sorted_kept e es false below sorted = sorted
-
-  pub sorted_filter : (p : K × X → Bool) (es : List (K × X)) → is_sorted R es ≡ true → is_sorted R (filter p es) ≡ true
-  sorted_filter p [] h = refl
-  sorted_filter p (e ∷ es) h =
-      let parts = both (below_all R e.0 es) (is_sorted R es) h in
-      sorted_kept e (filter p es) (p e) (below_filter e.0 p es parts.0) (sorted_filter p es parts.1)
-
-  none_below : (k : K) (es : List (K × X)) → below_all R k es ≡ true → find R k es ≡ None
-  none_below k [] h = refl
-  none_below k (e ∷ es) h =
-      let parts = both (is_lt (R k e.0)) (below_all R k es) h in
-      ap (λ b. cond b (Some e.1) (find R k es)) (less_unequal (R k e.0) parts.0) ∙ none_below k es parts.1
-
   not_found : (q : K) (e : K × X) (es : List (K × X)) (b : Bool) → eq_by_cmp R q e.0 ≡ b → cond b (Some e.1) (find R q es) ≡ None → (find R q es ≡ None → list_any (λ e. eq_by_cmp R q e.0) es ≡ false)
       → list_any (λ e. eq_by_cmp R q e.0) (e ∷ es) ≡ false
   not_found q e es true t h more = cc
@@ -91,39 +58,11 @@ module _ {K X Y : Type 0} (R : K → K → Ordering) (f : X → Y) where
   sorted_map (e ∷ es) = (λ i. below_map e.0 es i && sorted_map es i)
 
 module _ {K X : Type 0} {R : K → K → Ordering} (total : IsTotalOrder R) (same : IsAntisymmetric R) where
-  -- an entry if it passes
-  abbrev passing : (K × X → Bool) → K → Option X → Option X
-  passing p q o = option_and_then (λ x. cond (p (q, x)) (Some x) None) o
-
-  kept_first : (p : K × X → Bool) (q : K) (e : K × X) (es : List (K × X)) (b : Bool) → p e ≡ b → eq_by_cmp R q e.0 ≡ true → find R q (filter p es) ≡ None
-      → find R q (cond b (e ∷ filter p es) (filter p es)) ≡ cond b (Some e.1) None
-  kept_first p q e es true is t none = ap (λ b. cond b (Some e.1) (find R q (filter p es))) t
-  kept_first p q e es false is t none = none
-
-  kept_other : (p : K × X → Bool) (q : K) (e : K × X) (es : List (K × X)) (b : Bool) → eq_by_cmp R q e.0 ≡ false → find R q (cond b (e ∷ es) es) ≡ find R q es
-  kept_other p q e es true t = ap (λ b. cond b (Some e.1) (find R q es)) t
-  kept_other p q e es false t = refl
-
-  find_step : (p : K × X → Bool) (q : K) (e : K × X) (es : List (K × X)) → below_all R e.0 es ≡ true → find R q (filter p es) ≡ passing p q (find R q es)
-      → (t : Bool) → eq_by_cmp R q e.0 ≡ t → find R q (cond (p e) (e ∷ filter p es) (filter p es)) ≡ passing p q (cond t (Some e.1) (find R q es))
-  find_step p q e es below rest true t =
-      let key : q ≡ e.0 = tied_keys total same q e.0 t in
-      let none : find R q es ≡ None = ap (λ k. find R k es) key ∙ none_below R e.0 es below in
-      kept_first p q e es (p e) refl t (rest ∙ ap (passing p q) none) ∙ ap (λ k. cond (p (k, e.1)) (Some e.1) None) (sym key)
-  find_step p q e es below rest false t = kept_other p q e (filter p es) (p e) t ∙ rest
-
-  pub find_filter : (p : K × X → Bool) (q : K) (es : List (K × X)) → is_sorted R es ≡ true → find R q (filter p es) ≡ passing p q (find R q es)
-  find_filter p q [] h = refl
-  find_filter p q (e ∷ es) h =
-      let parts = both (below_all R e.0 es) (is_sorted R es) h in
-      find_step p q e es parts.0 (find_filter p q es parts.1) (eq_by_cmp R q e.0) refl
-
   -- what is put is there
   found_put : (m : FinMap R X) (e : K × X) (es : List (K × X)) (q : K) (x : X) → below_all R e.0 es ≡ true → (t : Bool) → eq_by_cmp R q e.0 ≡ t → cond t (Some e.1) (find R q es) ≡ Some x
       → (find R q es ≡ Some x → get (with_all (insert m e.0 e.1) es) q ≡ Some x) → get (with_all (insert m e.0 e.1) es) q ≡ Some x
   found_put m e es q x below true t h more =
-      let key : q ≡ e.0 = tied_keys total same q e.0 t in
-      with_all_apart total same (insert m e.0 e.1) es q (none_tied R q es (ap (λ k. find R k es) key ∙ none_below R e.0 es below))
+      with_all_apart total same (insert m e.0 e.1) es q (none_tied R q es (tied_behind total e.0 q es (T_from_true _ below) t))
       ∙ get-insert total m e.0 e.1 q ∙ ap (λ b. cond b (Some e.1) (get m q)) t ∙ h
   found_put m e es q x below false t h more = more h
 
@@ -159,7 +98,7 @@ shown_elsewhere {X} version suite xs ys on q other =
     [] ys (λ all. ap (λ (zs : List (ShelfKey × X)). get (shown version zs) q) (append-nil xs)) on
   where
     apart : (a : ShelfKey × X) → a.0.suite ≡ suite → (b : Bool) → eq_by_cmp key_order q a.0 ≡ b → b ≡ false
-    apart a at true tied = absurd (other (ap (λ (k : ShelfKey). k.suite) (tied_keys key_order_total key_order-IsAntisymmetric q a.0 tied) ∙ at))
+    apart a at true tied = absurd (other (ap (λ (k : ShelfKey). k.suite) (same_keys key_order-IsAntisymmetric q a.0 tied) ∙ at))
     apart a at false tied = refl
 
     admitted_elsewhere : (m : ShelvesWith X) (a : ShelfKey × X) → a.0.suite ≡ suite → (b : Bool) → get (cond b m (insert m a.0 a.1)) q ≡ get m q
@@ -179,7 +118,7 @@ module _ (suite : ℕ) (old new : ShelvesWith BodyItem) (before after : ShelvesV
   find_added : (q : ShelfKey) → find key_order q (map (on_value key_order printed_item) added) ≡ option_map printed_item (option_and_then (λ y. cond (is_new (q, y)) (Some y) None) (get new q))
   find_added q =
       find-map key_order printed_item q added
-      ∙ ap (option_map printed_item) (find_filter key_order_total key_order-IsAntisymmetric is_new q (entries new) (true_from_T _ (entries_sorted new))
+      ∙ ap (option_map printed_item) (find-filter key_order_total key_order-IsAntisymmetric is_new q (entries new) (entries_sorted new)
       ∙ ap (option_and_then (λ y. cond (is_new (q, y)) (Some y) None)) (sym (get-entries new q)))
 
   -- an old item is not new
@@ -203,7 +142,7 @@ module _ (suite : ℕ) (old new : ShelvesWith BodyItem) (before after : ShelvesV
   -- if something is put at a place, what was there does not stay as it was
   replaced : (q : ShelfKey) (p : Item) (x : BodyItem) → find key_order q plan.put ≡ Some p → get old q ≡ Some x → get after q ≢ Some (printed_item x)
   replaced q p x found h now =
-      let at = find-Contains key_order_total key_order-IsAntisymmetric q plan.put p found in
+      let at = member_found key_order-IsAntisymmetric q p plan.put found in
       let absent : get (without before plan.dropped) q ≡ None = all_at (λ (e : ShelfKey × Item). get (without before plan.dropped) e.0 ≡ None) plan.put (q, p) change.absent at in
       let held : get before q ≡ Some (printed_item x) = was q ∙ ap (option_map printed_item) h in
       let d = taken_out key_order_total key_order-IsAntisymmetric before plan.dropped q (printed_item x) held absent in
@@ -232,7 +171,7 @@ module _ (suite : ℕ) (old new : ShelvesWith BodyItem) (before after : ShelvesV
       ∙ put_found key_order_total key_order-IsAntisymmetric (without before plan.dropped) plan.put q p (true_from_T _ change.put_in_order) found in
       let y = some_printed (get new q) p (sym (is q) ∙ now) in
       let fresh : is_new (q, y.0) ≡ true =
-      both_true (nat_eq q.suite suite) (not (has_version (get old q) y.0)) (put_suite q p y.0 found y.1 (nat_eq q.suite suite) refl)
+      and_from (nat_eq q.suite suite) (not (has_version (get old q) y.0)) (put_suite q p y.0 found y.1 (nat_eq q.suite suite) refl)
       (ap not (put_version q p y.0 found y.1 (get old q) refl)) in
       ap (λ o. option_map printed_item (option_and_then (λ y. cond (is_new (q, y)) (Some y) None) o)) y.1
       ∙ ap (λ b. option_map printed_item (cond b (Some y.0) None)) fresh ∙ ap Some y.2
@@ -245,7 +184,7 @@ module _ (suite : ℕ) (old new : ShelvesWith BodyItem) (before after : ShelvesV
   pub added-put : map (on_value key_order printed_item) added ≡ plan.put
   added-put =
       same_entries key_order key_order_total key_order-IsAntisymmetric (map (on_value key_order printed_item) added) plan.put
-      (T_from_true _ (sorted_map key_order printed_item added ∙ sorted_filter key_order is_new (entries new) (true_from_T _ (entries_sorted new))))
+      (T_from_true _ (sorted_map key_order printed_item added ∙ true_from_T _ (sorted-filter key_order is_new (entries new) (entries_sorted new))))
       change.put_in_order
       (λ q. find_added q ∙ find_same q (find key_order q plan.put) refl)
 

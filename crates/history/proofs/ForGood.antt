@@ -3,9 +3,9 @@ use Rattle.std.proofs.Common.{◌≡◌, ◌≤◌, ◌*◌, ℕ, List, [], ◌�
 use Rattle.std.specs.Prelude.{option_map}
 use Rattle.std.proofs.lemmas.Bool.{le-ltb}
 use Rattle.rules.specs.Values.{ConfigValue}
-use Rattle.keep.specs.Book.{Book, at_moment, counts, counts_since, current, ended, latest, span}
-use Rattle.keep.specs.declared.arrival.Arrival.{Arrival}
-use Rattle.keep.proofs.Moments.{current-none}
+use Rattle.book.specs.Book.{Book, at_moment, counts, counts_since, current, ended, latest, span}
+use Rattle.book.specs.declared.arrival.Arrival.{Arrival}
+use Rattle.book.proofs.Moments.{current-none}
 use Rattle.history.specs.Answers.{answer}
 use Rattle.history.specs.Archives.{book_from, book_of}
 use Rattle.history.specs.Histories.{Cleaning, Count, History, Reply, Turn, arrived, counting, followed}

@@ -9,27 +9,16 @@ use Rattle.std.proofs.lemmas.Option.{same_Some}
 use Rattle.records.specs.Records.{dsc_in, sidecar_in}
 use Rattle.records.specs.Values.{ChangesValue, DscValue, SidecarValue}
 use Rattle.records.specs.declared.fault.RecordFault.{RecordFault}
-use Rattle.sums.proofs.Members.{here, there, which, no_member, from_map}
+use Rattle.sums.proofs.Members.{here, there, which, from_map}
 use Rattle.sums.specs.declared.entries.Entry.{Entry}
-use Rattle.suites.proofs.ListMembers.{from_filter, only}
+use Rattle.suites.proofs.ListMembers.{from_filter, only, from_filter_map}
 use Rattle.suites.specs.Items.{FileWith, ItemWith, file_with, item_with}
 use Rattle.suites.specs.Upload.{UploadValue, Part, parts, parts_with, dsc_parts, sidecar_parts, has_suffix, file_at, package_file, stem, source_item, binary_item, items_of}
 use Rattle.suites.specs.declared.key.Kind.TheVariants.{Source, Binary}
-use Rattle.history.proofs.ContentsListed.{from_zip, named_entry}
+use Rattle.suites.proofs.UploadFiles.{entry_named-Contains}
+use Rattle.history.proofs.ContentsListed.{from_zip}
 
 -- ---- members
-
-consed : {X Y : Type 0} (h : X → Option Y) (x : X) (xs : List X) (y : Y) (o : Option Y) → h x ≡ o → Contains (cons_option o (filter_map h xs)) y
-    → (Contains (filter_map h xs) y → (z : X) × Contains xs z × (h z ≡ Some y)) → (z : X) × Contains (x ∷ xs) z × (h z ≡ Some y)
-consed h x xs y None e at more = let m = more at in (m.0, there x m.0 xs m.1, m.2)
-consed h x xs y (Some z) e at more = elim (which z y (filter_map h xs) at) [
-  | inl same ↦ (x, here x xs, e ∙ ap Some same)
-  | inr rest ↦ let m = more rest in (m.0, there x m.0 xs m.1, m.2)
-]
-
-pub from_filter_map : {X Y : Type 0} (h : X → Option Y) (xs : List X) (y : Y) → Contains (filter_map h xs) y → (z : X) × Contains xs z × (h z ≡ Some y)
-from_filter_map h [] y at = no_member y at
-from_filter_map h (x ∷ xs) y at = consed h x xs y (h x) refl at (from_filter_map h xs y)
 
 map-cons_option : {Y Z : Type 0} (g : Y → Z) (o : Option Y) (ys : List Y) → map g (cons_option o ys) ≡ cons_option (option_map g o) (map g ys)
 map-cons_option g None ys = refl
@@ -65,7 +54,7 @@ part_entry suffix u part at =
 package_entry : (c : ChangesValue) (sidecar : List ℕ) (e : Entry) → Contains (option_to_list (package_file c.entries sidecar)) e → Contains c.entries e
 unfolding package_file
 package_entry c sidecar e at =
-    (named_entry (stem (codes ".control") sidecar ++ codes ".deb") c.entries e (only (package_file c.entries sidecar) e at)).0
+    (entry_named-Contains (stem (codes ".control") sidecar ++ codes ".deb") c.entries e (only (package_file c.entries sidecar) e at)).0
 
 source_entry : (u : UploadValue) (part : Part) (d : DscValue) → Contains (dsc_parts u) part → dsc_in part.1 ≡ Ok d → (e : Entry) → Contains (part.0 ∷ d.entries) e → IsListedBy u e
 source_entry u part d at read e listed = elim (which part.0 e d.entries listed) [
@@ -169,9 +158,9 @@ module _ {C : Type 0} (contents : Entry → C) where
       let binaries = filter_map (λ (part : Part). option_map (binary_item contents u.changes component part) (result_ok (sidecar_in part.1))) (sidecar_parts u) in
       elim (Contains-append_cases sources binaries i at) [
         | inl p ↦
-            let m = from_filter_map (λ (part : Part). option_map (source_item contents u.changes component part) (result_ok (dsc_in part.1))) (dsc_parts u) i p in
+            let m = from_filter_map (λ (part : Part). option_map (source_item contents u.changes component part) (result_ok (dsc_in part.1))) i (dsc_parts u) p in
             source_listed u component m.0 i file m.1 (dsc_in (m.0).1) refl m.2 k
         | inr q ↦
-            let m = from_filter_map (λ (part : Part). option_map (binary_item contents u.changes component part) (result_ok (sidecar_in part.1))) (sidecar_parts u) i q in
+            let m = from_filter_map (λ (part : Part). option_map (binary_item contents u.changes component part) (result_ok (sidecar_in part.1))) i (sidecar_parts u) q in
             binary_listed u component m.0 i file (sidecar_in (m.0).1) m.2 k
       ]

@@ -1,10 +1,9 @@
 -- What the lists of an accepted upload say of its files.
-use Rattle.std.proofs.Common.{◌≡◌, ◌≢◌, ◌⊎◌, ℕ, Bool, true, false, cond, not, ◌&&◌, List, [], ◌++◌, Option, Some, None, is_some, unwrap_or, Ok, refl, sym, ap, ◌∙◌, subst, inl, inr, arith}
-use Rattle.std.specs.Prelude.{AllPairs, Contains}
+use Rattle.std.proofs.Common.{◌≡◌, ◌⊎◌, ℕ, Bool, true, false, cond, not, ◌&&◌, List, [], ◌++◌, Option, Some, None, is_some, unwrap_or, refl, sym, ap, ◌∙◌, subst, inl, inr, arith}
+use Rattle.std.specs.Prelude.{Contains}
 use Rattle.std.specs.FinMap.{get}
 use Rattle.std.specs.List.{list_any}
 use Rattle.std.specs.Option.{option_map_or, option_or}
-use Rattle.records.proofs.RecordRead.{dsc_of_read}
 use Rattle.records.specs.Records.{dsc_in, dsc_within}
 use Rattle.records.specs.Values.{ChangesValue, DscValue}
 use Rattle.rules.specs.Judgement.{rule_rows, suite_of, suite_rows}
@@ -16,13 +15,12 @@ use Rattle.rules.specs.declared.verdict.Verdict.{Verdict}
 use Rattle.rules.specs.declared.verdict.Verdict.TheVariants as verdict
 use Rattle.sums.proofs.Booleans.{passed}
 use Rattle.sums.proofs.Members.{there, any_false}
-use Rattle.sums.specs.Lines.{greatest_size}
 use Rattle.sums.specs.Prints.{print as print_of, same_print}
 use Rattle.sums.specs.declared.entries.Entry.{Entry}
 use Rattle.suites.proofs.AcceptedLists.{at_ok, both_listed}
 use Rattle.suites.proofs.Joining.{row_passed}
 use Rattle.suites.proofs.Prints.{same_print-equal}
-use Rattle.suites.proofs.RecordTexts.{dsc-within}
+use Rattle.suites.proofs.RecordTexts.{dsc-within, dsc-names}
 use Rattle.suites.specs.Pool.{PoolWith}
 use Rattle.suites.specs.Upload.{UploadValue, Part, dsc_parts, entry_named}
 use Rattle.suites.specs.Verdict.{Telling, differs_from_dsc, has_bad_dsc, has_bad_listing, has_bad_sidecar, has_other_contents, is_missing_file, lacks_source_file, match_ok, path_of, upload_rows, verdict_with}
@@ -65,9 +63,6 @@ no_row_applies tell files config u h =
     record { dsc = dsc.0; sidecar = sidecar.0; missing = missing.0; taken = taken.0 }
 
 -- ---- what the .dsc lists
-
-dsc_names : (text : List ℕ) (d : DscValue) → dsc_in text ≡ Ok d → AllPairs (λ a b. a.name ≢ b.name) d.entries
-dsc_names text d h = let read = dsc_of_read greatest_size text d h in read.made.entries.listed.names
 
 good_dsc : (most : ℕ) (u : UploadValue) (f : Entry) (in_dsc : IsInDsc u f) → has_bad_dsc most u ≡ false → differs_from_dsc u.changes in_dsc.part.0.name in_dsc.dsc ≡ false
 unfolding has_bad_dsc
@@ -132,7 +127,7 @@ pool_contents w files f none h =
 dsc_contents : (most : ℕ) (w : WholeUpload) (files : PoolWith (List ℕ)) (f : Entry) → HasItsBodies w → NoRowApplies (by_body w) files most w.upload → IsInDsc w.upload f → HasContents w files f
 dsc_contents most w files f whole rows s = elim (listed_cases w f.name whole) [
   | inl l ↦ has_brought w files f l.body l.found l.body_in
-      (l.print ∙ both_listed w.upload.changes s.part.0.name s.dsc l.entry f (good_dsc most w.upload f s rows.dsc) (dsc_names s.part.1 s.dsc s.read) l.entry_in s.entry_in l.name_is)
+      (l.print ∙ both_listed w.upload.changes s.part.0.name s.dsc l.entry f (good_dsc most w.upload f s rows.dsc) (dsc-names s.part.1 s.dsc s.read) l.entry_in s.entry_in l.name_is)
   | inr n ↦ pool_contents w files f n (none_missing (by_body w) files w.upload f s rows.missing)
 ]
 

@@ -1,53 +1,36 @@
 -- An upload has a verdict exactly if it was complete at a run that was done.
-use Rattle.std.proofs.Common.{◌≡◌, ℕ, Bool, true, false, cond, not, ◌&&◌, ◌||◌, ◌==◌, List, [], ◌∷◌, ◌++◌, map, filter, fold, Option, Some, None, Result, Ok, Err, refl, sym, ap, subst, ◌∙◌}
+use Rattle.std.proofs.Common.{◌≡◌, ℕ, Bool, true, false, cond, not, ◌&&◌, ◌||◌, List, [], ◌∷◌, ◌++◌, map, filter, fold, Option, Some, None, Result, Ok, Err, refl, sym, ap, ◌∙◌}
 use Rattle.std.proofs.lemmas.Bool.{and_parts}
 use Rattle.std.specs.Prelude.{Contains, IfSome, option_to_list, bytes_eq}
 use Rattle.std.specs.Ordering.{is_gt}
 use Rattle.std.specs.List.{AllByRecursion, list_any, flat_map}
 use Rattle.std.specs.Option.{option_map}
 use Rattle.std.specs.Result.{result_ok}
-use Rattle.std.specs.Bool.{Decides}
 use Rattle.std.proofs.lemmas.Slice.Eq.{bytes_eq-Decides}
-use Rattle.std.proofs.lemmas.Bool.Decides.{same_from_decides, Decides-eqb}
+use Rattle.std.proofs.lemmas.Bool.Decides.{same_from_decides}
 use Rattle.std.proofs.lemmas.List.Folds.{list_any-append}
+use Rattle.std.proofs.lemmas.Option.{same_Some}
+use Rattle.std.proofs.Math.Bool.{or_assoc, or-false}
 use Rattle.records.specs.Records.{changes_in}
 use Rattle.records.specs.Values.{ChangesValue}
 use Rattle.rules.specs.Values.{ConfigValue}
 use Rattle.sums.specs.Prints.{print as print_of, same_print}
-use Rattle.sums.specs.declared.print.Print.{Print}
-use Rattle.keep.specs.Book.{Book, Candidate, at_moment, candidate_of, candidates, due, in_order, is_complete, is_judged, candidate_order, put_in_order, unjudged, upload_of}
-use Rattle.keep.specs.Keeping.{NoCollision}
-use Rattle.keep.specs.declared.arrival.Arrival.{Arrival}
+use Rattle.book.specs.Book.{Book, Candidate, at_moment, candidate_of, candidates, due, in_order, is_complete, is_judged, candidate_order, put_in_order, unjudged, upload_of}
+use Rattle.book.specs.Keeping.{NoCollision}
+use Rattle.book.specs.declared.arrival.Arrival.{Arrival}
+use Rattle.book.proofs.Prints.{same_print-Decides}
+use Rattle.suites.proofs.ListTests.{filter_same_on, list_any-filter, any_with}
 use Rattle.history.specs.Before.{before_each, before_each-push}
 use Rattle.history.specs.Histories.{Call, Delivery, QueueRun, Copying, Lookup, WaitingList, Cleaning, Removing, Promoting, VerdictList, Reply, Turn, History, arrived, bodies_of_call, completes, counting, due_after, has_come, waiting_after, was_judged}
 use Rattle.history.specs.Archives.{PlainArchive, Whole, Copy, Remove, Promote, acted, acts_of, all_acts, archive, archive_of, book_from, book_of, copied, copied_all, removed, sources_in, suite_named, whole, whole_of, with_admitted}
 use Rattle.history.specs.Answers.{IsFaithful}
 use Rattle.history.specs.declared.fault.Fault.{Fault}
-use Rattle.history.proofs.Lists.{all_filter_map, all_front, all_weaker, by_steps, filter_agree_on}
+use Rattle.history.proofs.Lists.{all_filter_map, all_front, all_weaker, by_steps}
 use Rattle.history.proofs.Known.{ArrivalsHave, StepsHave, Knows, arrived_have, counting_have, counting_known, faithful_knows, with_empty, has_empty}
 use Rattle.history.proofs.Steps.{step_of, archive-push}
 use Rattle.sums.specs.FileNames.{is_changes_name}
 
 -- ---- prints and candidates
-
-both_true : (a b : Bool) → a ≡ true → b ≡ true → (a && b) ≡ true
-both_true a b ha hb = ap (λ x. x && b) ha ∙ hb
-
-pub same_print-Decides : (p q : Print) → Decides (same_print p q) (p ≡ q)
-same_print-Decides p q = (
-  λ h.
-      let last = and_parts ((p.size == q.size) && bytes_eq p.md5 q.md5 && bytes_eq p.sha1 q.sha1) (bytes_eq p.sha256 q.sha256) h in
-      let third = and_parts ((p.size == q.size) && bytes_eq p.md5 q.md5) (bytes_eq p.sha1 q.sha1) last.0 in
-      let first = and_parts (p.size == q.size) (bytes_eq p.md5 q.md5) third.0 in
-      equal_fields p q ((Decides-eqb p.size q.size).0 first.0) ((bytes_eq-Decides p.md5 q.md5).0 first.1)
-      ((bytes_eq-Decides p.sha1 q.sha1).0 third.1) ((bytes_eq-Decides p.sha256 q.sha256).0 last.1),
-  λ e. subst (λ (r : Print). same_print p r ≡ true) e
-      (both_true _ _ (both_true _ _ (both_true _ _ ((Decides-eqb p.size p.size).1 refl) ((bytes_eq-Decides p.md5 p.md5).1 refl))
-      ((bytes_eq-Decides p.sha1 p.sha1).1 refl)) ((bytes_eq-Decides p.sha256 p.sha256).1 refl)),
-)
-  where
-    equal_fields : (a b : Print) → a.size ≡ b.size → a.md5 ≡ b.md5 → a.sha1 ≡ b.sha1 → a.sha256 ≡ b.sha256 → a ≡ b
-    equal_fields a b size md5 sha1 sha256 = λ i. record { size = size i; md5 = md5 i; sha1 = sha1 i; sha256 = sha256 i }
 
 -- the candidate's record is that of its body
 abbrev pub IsRead : Candidate → Type 0
@@ -79,15 +62,12 @@ is_signed c d = bytes_eq d.name c.name && same_print (print_of d.body) (print_of
 abbrev pub is_twin : Candidate → Candidate → Bool
 is_twin c d = bytes_eq d.name c.name && bytes_eq d.body c.body
 
-some_same : {X : Type 0} (x y : X) → Some x ≡ Some y → x ≡ y
-some_same x y e = cc
-
 twin_is : (c d : Candidate) → IsRead c → IsRead d → is_twin c d ≡ true → d ≡ c
 twin_is c d hc hd h =
     let parts = and_parts (bytes_eq d.name c.name) (bytes_eq d.body c.body) h in
     let names : d.name ≡ c.name = (bytes_eq-Decides d.name c.name).0 parts.0 in
     let bodies : d.body ≡ c.body = (bytes_eq-Decides d.body c.body).0 parts.1 in
-    let records : d.changes ≡ c.changes = some_same _ _ (sym hd ∙ ap (λ body. result_ok (changes_in body)) bodies ∙ hc) in
+    let records : d.changes ≡ c.changes = same_Some _ _ (sym hd ∙ ap (λ body. result_ok (changes_in body)) bodies ∙ hc) in
     λ i. record { name = names i; body = bodies i; changes = records i }
 
 -- among bodies without collision the print determines the body
@@ -102,30 +82,9 @@ signed_is_twin bodies apart c d hc hd =
 
 -- ---- tests of some element
 
-or_no : (a : Bool) → (a || false) ≡ a
-or_no true = refl
-or_no false = refl
-
-or_assoc : (a b c : Bool) → ((a || b) || c) ≡ (a || (b || c))
-or_assoc true b c = refl
-or_assoc false b c = refl
-
-pub any_filter : {X : Type 0} (t p : X → Bool) (xs : List X) → list_any t (filter p xs) ≡ list_any (λ x. p x && t x) xs
-any_filter t p [] = refl
-any_filter {X} t p (x ∷ xs) = kept (p x) ∙ ap (λ b. (p x && t x) || b) (any_filter t p xs)
-  where
-    kept : (b : Bool) → list_any t (cond b (x ∷ filter p xs) (filter p xs)) ≡ ((b && t x) || list_any t (filter p xs))
-    kept true = refl
-    kept false = refl
-
 pub any_agree_on : {X : Type 0} (t s : X → Bool) (xs : List X) → AllByRecursion (λ x. t x ≡ s x) xs → list_any t xs ≡ list_any s xs
 any_agree_on t s [] h = refl
 any_agree_on t s (x ∷ xs) h = ap (λ b. b || list_any t xs) h.0 ∙ ap (λ b. s x || b) (any_agree_on t s xs h.1)
-
-any_with : {X : Type 0} (b : Bool) (t : X → Bool) (xs : List X) → list_any (λ x. b && t x) xs ≡ (b && list_any t xs)
-any_with true t xs = refl
-any_with false t [] = refl
-any_with false t (x ∷ xs) = any_with false t xs
 
 -- the order of judging keeps what passes a test
 any-in_order : (t : Candidate → Bool) (cs : List Candidate) → list_any t (in_order cs) ≡ list_any t cs
@@ -152,10 +111,10 @@ any-in_order t (c ∷ cs) = any-put (in_order cs) ∙ ap (λ b. t c || b) (any-i
 judged_wholes : (config : ConfigValue) (moment : ℕ) (arrivals : List Arrival) (ds : List Candidate) (a : PlainArchive) (c : Candidate)
     → is_judged (fold (acted config) a (map (λ d. Whole (whole_of arrivals d) moment) ds)).judged c ≡ (is_judged a.judged c || list_any (is_signed c) ds)
 unfolding whole whole_of upload_of is_judged with_admitted
-judged_wholes config moment arrivals [] a c = sym (or_no _)
+judged_wholes config moment arrivals [] a c = sym (or-false _)
 judged_wholes config moment arrivals (d ∷ ds) a c =
     judged_wholes config moment arrivals ds (whole config moment a (whole_of arrivals d)) c
-    ∙ ap (λ b. b || list_any (is_signed c) ds) (list_any-append _ a.judged _ ∙ ap (λ b. is_judged a.judged c || b) (or_no (is_signed c d)))
+    ∙ ap (λ b. b || list_any (is_signed c) ds) (list_any-append _ a.judged _ ∙ ap (λ b. is_judged a.judged c || b) (or-false (is_signed c d)))
     ∙ or_assoc (is_judged a.judged c) (is_signed c d) (list_any (is_signed c) ds)
 
 copies_judge : (config : ConfigValue) (from to : Option ℕ) (source : List ℕ) (moment : ℕ) (a : PlainArchive)
@@ -192,9 +151,9 @@ any_due bodies apart opening steps moment h c hc =
     let arrivals = counting opening steps moment in
     let fresh : Candidate → Bool = λ d. not (was_judged opening steps d) in
     let whole' : Candidate → Bool = is_complete arrivals in
-    any_filter (is_signed c) whole' (in_order (filter fresh (candidates arrivals)))
+    list_any-filter (is_signed c) whole' (in_order (filter fresh (candidates arrivals)))
     ∙ any-in_order (λ d. whole' d && is_signed c d) (filter fresh (candidates arrivals))
-    ∙ any_filter (λ d. whole' d && is_signed c d) fresh (candidates arrivals)
+    ∙ list_any-filter (λ d. whole' d && is_signed c d) fresh (candidates arrivals)
     ∙ any_agree_on (λ d. fresh d && (whole' d && is_signed c d)) (λ d. (fresh c && whole' c) && is_twin c d) (candidates arrivals)
     (all_weaker (IsOf (Contains bodies)) _ (λ d hd. at_twin fresh whole' d hd) (candidates arrivals) (candidates_are_of (Contains bodies) arrivals h))
     ∙ any_with (fresh c && whole' c) (is_twin c) (candidates arrivals)
@@ -226,7 +185,7 @@ unfolding was_judged
 was_judged-push opening steps call outcome c =
     let t : List Turn × Turn → Bool = λ p. completes opening p.0 c p.1.call p.1.outcome in
     ap (λ ps. is_judged opening.judged c || list_any t ps) (before_each-push steps (step_of call outcome))
-    ∙ ap (λ b. is_judged opening.judged c || b) (list_any-append t (before_each steps) ((steps, step_of call outcome) ∷ []) ∙ ap (λ b. list_any t (before_each steps) || b) (or_no (t (steps, step_of call outcome))))
+    ∙ ap (λ b. is_judged opening.judged c || b) (list_any-append t (before_each steps) ((steps, step_of call outcome) ∷ []) ∙ ap (λ b. list_any t (before_each steps) || b) (or-false (t (steps, step_of call outcome))))
     ∙ sym (or_assoc (is_judged opening.judged c) (list_any t (before_each steps)) (t (steps, step_of call outcome)))
 
 absorbed : (was come complete : Bool) → (was || ((not was && complete) && come)) ≡ (was || (come && complete))
@@ -251,26 +210,26 @@ judged_push bodies apart h hs (QueueRun moment) (Ok reply) c hc sofar =
     ∙ absorbed (was_judged h.opening h.steps c) (has_come arrivals c) (is_complete arrivals c)
 judged_push bodies apart h hs (Copying from to source moment) (Ok reply) c hc sofar =
     ap (λ js. is_judged js c) (copies_judge h.opening.config (suite_named h.opening.config from) (suite_named h.opening.config to) source moment (archive h))
-    ∙ sofar ∙ sym (or_no (was_judged h.opening h.steps c))
+    ∙ sofar ∙ sym (or-false (was_judged h.opening h.steps c))
 judged_push bodies apart h hs (Removing suite name moment) (Ok reply) c hc sofar =
     ap (λ js. is_judged js c) (removals_judge h.opening.config (suite_named h.opening.config suite) name moment (archive h))
-    ∙ sofar ∙ sym (or_no (was_judged h.opening h.steps c))
+    ∙ sofar ∙ sym (or-false (was_judged h.opening h.steps c))
 judged_push bodies apart h hs (Promoting from to sources moment) (Ok reply) c hc sofar =
     ap (λ js. is_judged js c) (promotions_judge h.opening.config (suite_named h.opening.config from) (suite_named h.opening.config to) sources moment (archive h))
-    ∙ sofar ∙ sym (or_no (was_judged h.opening h.steps c))
-judged_push bodies apart h hs (Promoting from to sources moment) (Err fault) c hc sofar = sofar ∙ sym (or_no (was_judged h.opening h.steps c))
-judged_push bodies apart h hs (Removing suite name moment) (Err fault) c hc sofar = sofar ∙ sym (or_no (was_judged h.opening h.steps c))
-judged_push bodies apart h hs (QueueRun moment) (Err fault) c hc sofar = sofar ∙ sym (or_no (was_judged h.opening h.steps c))
-judged_push bodies apart h hs (Copying from to source moment) (Err fault) c hc sofar = sofar ∙ sym (or_no (was_judged h.opening h.steps c))
-judged_push bodies apart h hs (Delivery name body moment) outcome c hc sofar = sofar ∙ sym (or_no (was_judged h.opening h.steps c))
-judged_push bodies apart h hs (Lookup path) outcome c hc sofar = sofar ∙ sym (or_no (was_judged h.opening h.steps c))
-judged_push bodies apart h hs (WaitingList moment) outcome c hc sofar = sofar ∙ sym (or_no (was_judged h.opening h.steps c))
-judged_push bodies apart h hs (Cleaning moment) outcome c hc sofar = sofar ∙ sym (or_no (was_judged h.opening h.steps c))
-judged_push bodies apart h hs VerdictList outcome c hc sofar = sofar ∙ sym (or_no (was_judged h.opening h.steps c))
+    ∙ sofar ∙ sym (or-false (was_judged h.opening h.steps c))
+judged_push bodies apart h hs (Promoting from to sources moment) (Err fault) c hc sofar = sofar ∙ sym (or-false (was_judged h.opening h.steps c))
+judged_push bodies apart h hs (Removing suite name moment) (Err fault) c hc sofar = sofar ∙ sym (or-false (was_judged h.opening h.steps c))
+judged_push bodies apart h hs (QueueRun moment) (Err fault) c hc sofar = sofar ∙ sym (or-false (was_judged h.opening h.steps c))
+judged_push bodies apart h hs (Copying from to source moment) (Err fault) c hc sofar = sofar ∙ sym (or-false (was_judged h.opening h.steps c))
+judged_push bodies apart h hs (Delivery name body moment) outcome c hc sofar = sofar ∙ sym (or-false (was_judged h.opening h.steps c))
+judged_push bodies apart h hs (Lookup path) outcome c hc sofar = sofar ∙ sym (or-false (was_judged h.opening h.steps c))
+judged_push bodies apart h hs (WaitingList moment) outcome c hc sofar = sofar ∙ sym (or-false (was_judged h.opening h.steps c))
+judged_push bodies apart h hs (Cleaning moment) outcome c hc sofar = sofar ∙ sym (or-false (was_judged h.opening h.steps c))
+judged_push bodies apart h hs VerdictList outcome c hc sofar = sofar ∙ sym (or-false (was_judged h.opening h.steps c))
 
 judged_opening : (opening : Book) (c : Candidate) → is_judged (archive (record { opening = opening; steps = [] })).judged c ≡ was_judged opening [] c
 unfolding archive all_acts archive_of was_judged
-judged_opening opening c = sym (or_no (is_judged opening.judged c))
+judged_opening opening c = sym (or-false (is_judged opening.judged c))
 
 -- ---- a history
 
@@ -294,7 +253,7 @@ pub unjudged_known : (bodies : List (List ℕ)) → NoCollision bodies → (h : 
 unfolding unjudged waiting_after book_of book_from at_moment counting
 unjudged_known bodies apart h knows moment =
     let all = candidates (counting h.opening h.steps moment) in
-    ap in_order (filter_agree_on (λ c. not (is_judged (archive h).judged c)) (λ c. not (was_judged h.opening h.steps c)) all
+    ap in_order (filter_same_on (λ c. not (is_judged (archive h).judged c)) (λ c. not (was_judged h.opening h.steps c)) all
     (all_weaker (IsOf (Contains bodies)) _ (λ c hc. ap not (is_judged-was_judged bodies apart h knows c hc)) all
     (candidates_are_of (Contains bodies) (counting h.opening h.steps moment) (counting_known (Contains bodies) h knows moment))))
 

@@ -1,8 +1,8 @@
 -- What is kept after a call that changes nothing, and what the keeper was before one that it served.
 use Rattle.std.specs.Prelude.{◌≡◌, ℕ, refl}
 use Rattle.std.proofs.Common.{ap, ◌∙◌}
-use Rattle.keep.specs.Book.{Book}
-use Rattle.keep.specs.Keeping.{Lasts}
+use Rattle.book.specs.Book.{Book}
+use Rattle.book.specs.Keeping.{Lasts}
 use Rattle.history.specs.Answers.{IsKept}
 use Rattle.history.specs.Archives.{Stands, book_from, book_of}
 use Rattle.history.specs.Histories.{History}

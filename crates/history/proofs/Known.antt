@@ -1,5 +1,5 @@
 -- The bodies that a history knows: those of its arrivals, of all that its plain archive was given, and of its pool.
-use Rattle.std.proofs.Common.{◌≡◌, ℕ, Bool, true, false, cond, List, [], ◌∷◌, ◌++◌, map, fold, length, Option, Some, None, Result, Ok, Err, Ordering, refl, sym, ap, subst, ◌∙◌, arith}
+use Rattle.std.proofs.Common.{◌≡◌, ℕ, Bool, true, false, cond, List, [], ◌∷◌, ◌++◌, map, fold, Option, Some, None, Result, Ok, Err, Ordering, refl, sym, ap, subst, ◌∙◌, arith}
 use Rattle.std.specs.Prelude.{Contains, ⊤, IfSome, zip, option_to_list, slice_get}
 use Rattle.std.specs.declared.cmp.Ordering.TheVariants.{Less, Equal, Greater}
 use Rattle.std.specs.Cmp.{IsTotalOrder}
@@ -8,7 +8,8 @@ use Rattle.std.specs.Result.{result_ok}
 use Rattle.std.specs.FinMap.Entries.{by_order}
 use Rattle.std.specs.Ordering.{eq_by_cmp}
 use Rattle.suites.specs.Keys.{key_order, text_order}
-use Rattle.std.specs.FinMap.{empty, entries, values, get, from_entries, find, put, entries-insert, get-from_entries, len-entries, len-empty}
+use Rattle.std.specs.FinMap.{entries, values, get, from_entries, find, put, entries-insert, get-from_entries}
+use Rattle.std.proofs.lemmas.List.{nil_from_length}
 use Rattle.records.specs.Records.{dsc_in, sidecar_in}
 use Rattle.records.specs.Values.{DscValue, SidecarValue}
 use Rattle.rules.specs.Values.{ConfigValue}
@@ -27,10 +28,11 @@ use Rattle.suites.specs.Shelves.{shown}
 use Rattle.suites.specs.Upload.{UploadValue, Part, items_of, source_item, binary_item, dsc_parts, sidecar_parts, package_file}
 use Rattle.suites.specs.declared.item.Item.{Item}
 use Rattle.suites.specs.declared.key.ShelfKey.{ShelfKey}
-use Rattle.keep.specs.Book.{Book, Candidate, at_latest, body_for, counts, current, has_arrival, is_same_pair, span, with_arrival}
-use Rattle.keep.specs.Keeping.{HasBodies, NoCollision}
-use Rattle.keep.specs.declared.arrival.Arrival.{Arrival}
-use Rattle.keep.proofs.Lists.{all_filter}
+use Rattle.suites.proofs.SharedLemmas.{entries-empty}
+use Rattle.book.specs.Book.{Book, Candidate, at_latest, body_for, counts, current, has_arrival, is_same_pair, span, with_arrival}
+use Rattle.book.specs.Keeping.{HasBodies, NoCollision}
+use Rattle.book.specs.declared.arrival.Arrival.{Arrival}
+use Rattle.book.proofs.Lists.{all_filter}
 use Rattle.history.specs.Histories.{Call, Delivery, QueueRun, Copying, Lookup, WaitingList, Cleaning, Removing, Promoting, VerdictList, Reply, Turn, History, arrived, arrivals_after, bodies_of, bodies_of_call, calls_of, counting, due_after}
 use Rattle.history.specs.Archives.{PlainArchive, Act, Whole, Copy, Remove, Promote, WholeUpload, BodyItem, acted, acts_of, archive, archive_of, all_acts, book_from, book_of, contents_of, copied, copied_all, items_copied, items_given, listed_body, pool_in, removed, shown_in, sources_in, suite_named, whole, whole_of, with_bodies, with_admitted}
 use Rattle.history.specs.Answers.{IsFaithful}
@@ -56,10 +58,6 @@ StepsHave K steps = AllByRecursion (λ s. AllByRecursion K (bodies_of_call s.cal
 
 -- ---- finite maps
 
-no_length : {X : Type 0} (xs : List X) → length xs ≡ 0 → xs ≡ []
-no_length [] e = refl
-no_length (x ∷ xs) e = absurd (omega arith)
-
 find_entry_have : {A X : Type 0} (R : A → A → Ordering) (P : X → Type 0) (q : A) (es : List (A × X)) → AllByRecursion (λ e. P e.1) es → IfSome (find R q es) P
 find_entry_have R P q [] h = tt
 find_entry_have R P q (e ∷ es) h = found (eq_by_cmp R q e.0) (find R q es) h.0 (find_entry_have R P q es h.1)
@@ -67,9 +65,6 @@ find_entry_have R P q (e ∷ es) h = found (eq_by_cmp R q e.0) (find R q es) h.0
     found : (b : Bool) (later : Option _) → P e.1 → IfSome later P → IfSome (cond b (Some e.1) later) P
     found true later here there = here
     found false later here there = there
-
-entries_empty : {A X : Type 0} (R : A → A → Ordering) → entries (empty {X = X} {R = R}) ≡ []
-entries_empty {A} {X} R = no_length _ (sym (len-entries (empty {X = X} {R = R})) ∙ len-empty R X)
 
 put_have : {A X : Type 0} (R : A → A → Ordering) (P : X → Type 0) (k : A) (v : X) (es : List (A × X)) → P v → AllByRecursion (λ e. P e.1) es → AllByRecursion (λ e. P e.1) (put R k v es)
 put_have R P k v [] hv h = (hv, tt)
@@ -81,7 +76,7 @@ put_have {A} {X} R P k v (e ∷ es) hv h = at_order (R k e.0) (put R k v es) (pu
     at_order Greater rest later = (h.0, later)
 
 entries_have : {A X : Type 0} (R : A → A → Ordering) → IsTotalOrder R → (P : X → Type 0) (es : List (A × X)) → AllByRecursion (λ e. P e.1) es → AllByRecursion (λ e. P e.1) (entries (from_entries {R = R} es))
-entries_have R o P [] h = subst (AllByRecursion (λ e. P e.1)) (sym (entries_empty R)) tt
+entries_have R o P [] h = subst (AllByRecursion (λ e. P e.1)) (sym (entries-empty R _)) tt
 entries_have R o P (e ∷ es) h =
     subst (AllByRecursion (λ e. P e.1)) (sym (entries-insert o (from_entries es) e.0 e.1)) (put_have R P e.0 e.1 _ h.0 (entries_have R o P es h.1))
 
@@ -335,7 +330,7 @@ faithful_book h calls faithful there = knows_book faithful.bodies h (faithful_kn
 
 -- only the empty body has its print
 empty_apart : (body : List ℕ) → print_of [] ≡ print_of body → [] ≡ body
-empty_apart body same = sym (no_length body (sym (ap (λ p. p.size) same)))
+empty_apart body same = sym (nil_from_length body (sym (ap (λ p. p.size) same)))
 
 pub apart_with_empty : (bodies : List (List ℕ)) → NoCollision bodies → NoCollision ([] ∷ bodies)
 apart_with_empty bodies apart a b ha hb same =

@@ -1,5 +1,6 @@
 -- The largest body that may be delivered under a name.
-use Rattle.std.proofs.Common.{◌≡◌, ◌≤◌, ℕ, Bool, true, false, ◌||◌, List, if◌then◌else◌, refl, ap, ◌∙◌, arith}
+use Rattle.std.proofs.Common.{◌≡◌, ◌≤◌, ℕ, Bool, true, false, ◌||◌, List, if◌then◌else◌, ap, ◌∙◌, arith}
+use Rattle.std.proofs.Math.Bool.{or-true}
 use Rattle.rules.proofs.Sizes.{largest-greatest, largest-least}
 use Rattle.rules.specs.Sizes.{largest}
 use Rattle.rules.specs.Values.{ConfigValue}
@@ -24,15 +25,11 @@ named_least config name = by_text (has_text name || is_changes_name name)
     by_text true = omega arith
     by_text false = largest-least config
 
-or_true : (b : Bool) → b || true ≡ true
-or_true true = refl
-or_true false = refl
-
 -- the limit of a .changes is the same in each archive
 pub named_changes : (config : ConfigValue) (name : List ℕ) → is_changes_name name ≡ true → most_named config name ≡ most_size
 unfolding most_named
 named_changes config name is =
-    ap (λ (b : Bool). if b then most_size else largest config) (ap (λ (b : Bool). has_text name || b) is ∙ or_true (has_text name))
+    ap (λ (b : Bool). if b then most_size else largest config) (ap (λ (b : Bool). has_text name || b) is ∙ or-true (has_text name))
 
 -- the limit is that of an equal configuration
 pub named_under : (most : ℕ) (config other : ConfigValue) (name : List ℕ) → most ≡ most_named config name → config ≡ other → most ≡ most_named other name

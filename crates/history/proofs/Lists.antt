@@ -1,7 +1,7 @@
 -- Lists: what holds of each element, by recursion; filters; a rule over steps.
-use Rattle.std.proofs.Common.{◌≡◌, ℕ, zero, suc, ◌<◌, Bool, true, false, cond, ◌||◌, List, [], ◌∷◌, ◌++◌, map, filter, Option, Some, None, get_or, length, refl, sym, ap, subst, ◌∙◌, arith, append_assoc, append-nil}
+use Rattle.std.proofs.Common.{◌≡◌, ℕ, zero, suc, ◌<◌, Bool, true, false, cond, List, [], ◌∷◌, ◌++◌, map, Option, Some, None, get_or, length, refl, sym, ap, subst, ◌∙◌, arith, append_assoc, append-nil}
 use Rattle.std.specs.Prelude.{Contains, IfSome}
-use Rattle.std.specs.List.{AllByRecursion, list_any, flat_map, filter_map, cons_option, find}
+use Rattle.std.specs.List.{AllByRecursion, flat_map, filter_map, cons_option, find}
 use Rattle.std.specs.Option.{option_map, option_or, unwrap_or}
 use Rattle.std.proofs.lemmas.List.Elements.{recursion_from_All, All-from_recursion}
 
@@ -81,14 +81,6 @@ contains_cases {X} P y xs x first later there = at_place there.0 there.1 there.2
 -- tests that agree at each element of a list keep the same elements
 cond_same : {X : Type 0} (a b : Bool) (x : X) (xs ys : List X) → a ≡ b → xs ≡ ys → cond a (x ∷ xs) xs ≡ cond b (x ∷ ys) ys
 cond_same a b x xs ys e h = ap (λ c. cond c (x ∷ xs) xs) e ∙ ap (λ zs. cond b (x ∷ zs) zs) h
-
-pub filter_agree_on : {X : Type 0} (p q : X → Bool) (xs : List X) → AllByRecursion (λ x. p x ≡ q x) xs → filter p xs ≡ filter q xs
-filter_agree_on p q [] h = refl
-filter_agree_on p q (x ∷ xs) h = cond_same (p x) (q x) x (filter p xs) (filter q xs) h.0 (filter_agree_on p q xs h.1)
-
-pub list_any-map : {X Y : Type 0} (t : Y → Bool) (f : X → Y) (xs : List X) → list_any t (map f xs) ≡ list_any (λ x. t (f x)) xs
-list_any-map t f [] = refl
-list_any-map t f (x ∷ xs) = ap (λ b. t (f x) || b) (list_any-map t f xs)
 
 -- ---- what is found
 

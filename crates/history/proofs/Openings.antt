@@ -7,13 +7,13 @@ use Rattle.suites.specs.Keys.{key_order, text_order}
 use Rattle.suites.specs.Pool.{pool_of, files_with}
 use Rattle.suites.specs.declared.key.ShelfKey.{ShelfKey}
 use Rattle.suites.specs.Shelves.{ShelvesValue, shown}
-use Rattle.keep.specs.Book.{Book}
-use Rattle.keep.specs.Plain.{fresh_book}
-use Rattle.keep.specs.Keeping.{NoCollision}
+use Rattle.suites.proofs.SharedLemmas.{entries-empty}
+use Rattle.book.specs.Book.{Book}
+use Rattle.book.specs.Book.{fresh_book}
+use Rattle.book.specs.Keeping.{NoCollision}
 use Rattle.history.specs.Answers.{IsFaithful, IsOpening}
 use Rattle.history.specs.Archives.{BodyItem, PlainArchive, Stands, all_acts, archive, archive_of, book_from, book_of, shown_by_print, with_bodies, pool_in}
 use Rattle.history.specs.Histories.{Call, arrived, bodies_of, opened_with}
-use Rattle.history.proofs.ContentsMaps.{entries-empty}
 
 nothing : (config : ConfigValue) (moment : ℕ) → PlainArchive
 nothing config moment = record { admitted = []; judged = []; dates = replicate (length config.suites) moment }
@@ -22,7 +22,7 @@ made : (config : ConfigValue) (moment : ℕ) → archive_of (fresh_book config m
 unfolding archive_of fresh_book nothing
 made config moment =
     ap (λ es. record { admitted = map (λ e. (e.0, with_bodies (fresh_book config moment) e.1)) es; judged = []; dates = replicate (length config.suites) moment })
-    (entries-empty key_order)
+    (entries-empty key_order _)
 
 shows_nothing : (config : ConfigValue) (moment : ℕ) → empty ≡ shown_by_print (nothing config moment)
 unfolding nothing shown_by_print shown
@@ -31,7 +31,7 @@ shows_nothing config moment = refl
 no_files : (config : ConfigValue) (moment : ℕ) (path : List ℕ) → None ≡ get (pool_in (nothing config moment)) path
 unfolding nothing shown
 no_files config moment path =
-    sym (ap (λ (es : List (ShelfKey × BodyItem)). get (pool_of (files_with (map (λ e. e.1) es))) path) (entries-empty key_order) ∙ get-empty text_order path)
+    sym (ap (λ (es : List (ShelfKey × BodyItem)). get (pool_of (files_with (map (λ e. e.1) es))) path) (entries-empty key_order BodyItem) ∙ get-empty text_order path)
 
 from_nothing : (config : ConfigValue) (moment : ℕ) → fresh_book config moment ≡ book_from config [] (nothing config moment)
 unfolding fresh_book book_from nothing

@@ -6,10 +6,10 @@ use Rattle.std.proofs.lemmas.Option.{same_Some}
 use Rattle.rules.specs.Values.{ConfigValue}
 use Rattle.suites.specs.Shelves.{AreSound, ShelvesValue}
 use Rattle.suites.specs.Told.{AreTold}
-use Rattle.keep.specs.Book.{Book, amended, at_moment, due, judgements, latest, shown_past}
-use Rattle.keep.specs.Keeping.{AreSteps, HasEachBody, sign_of, sign_on}
-use Rattle.keep.specs.declared.change.Judgement.{Judgement}
-use Rattle.keep.specs.declared.change.Step.{Step}
+use Rattle.book.specs.Book.{Book, amended, at_moment, due, judgements, latest, shown_past}
+use Rattle.book.specs.Keeping.{AreSteps, HasEachBody, sign_of, sign_on}
+use Rattle.book.specs.declared.change.Judgement.{Judgement}
+use Rattle.book.specs.declared.change.Step.{Step}
 use Rattle.history.specs.Amending.{IsPlanned, OnceAmended, steps_at}
 use Rattle.history.specs.Answers.{IsAnswer, IsFaithful, IsKept, IsStep, answer, is_refused}
 use Rattle.history.specs.Archives.{Stands, book_of, suite_named}

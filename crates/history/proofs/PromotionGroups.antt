@@ -1,24 +1,16 @@
 -- The shelves of a suite in groups. A copy to another suite changes none of them.
-use Rattle.std.proofs.Common.{◌≡◌, ◌≢◌, ◌==◌, ℕ, Bool, true, false, cond, not, ◌&&◌, ◌||◌, List, [], ◌∷◌, ◌++◌, map, filter, length, Option, Some, None, option_and_then, option_to_list, slice_get, nat_eq, bytes_eq, refl, sym, ap, ◌∙◌, append-nil, arith, String, Global, true≢false}
+use Rattle.std.proofs.Common.{◌≡◌, ◌≢◌, ◌==◌, ℕ, Bool, true, false, cond, not, ◌&&◌, ◌||◌, List, [], ◌∷◌, ◌++◌, map, filter, length, Option, Some, None, option_and_then, option_to_list, slice_get, nat_eq, bytes_eq, refl, sym, ap, ◌∙◌, append-nil, arith, true≢false}
 use Rattle.std.specs.Prelude.{Contains, T}
-use Rattle.std.specs.BTreeMap.{BTreeMap, UpdatesBy, get_by_text}
-use Rattle.std.specs.Cmp.Lexicographic.{slice_cmp}
 use Rattle.std.specs.FinMap.{entries, entries_sorted, find, get, get-entries, is_sorted}
 use Rattle.std.specs.FinMap.Entries.{same_entries}
 use Rattle.std.specs.List.{list_any}
-use Rattle.std.specs.Ordering.{nat_cmp}
-use Rattle.std.specs.String.{string_cmp, string_bytes}
-use Rattle.std.specs.declared.vec.Vec.{Vec}
 use Rattle.std.proofs.lemmas.Bool.Decides.{Decides-eqb, nat_tests}
 use Rattle.std.proofs.lemmas.List.{map-append}
 use Rattle.std.proofs.lemmas.List.Elements.{filter-append}
-use Rattle.std.proofs.lemmas.Map.Text.{btree_map_updates_text}
-use Rattle.std.proofs.lemmas.Slice.Eq.{bytes_eq-Decides}
 use Rattle.rules.specs.Values.{ConfigValue}
 use Rattle.rules.specs.declared.suite.Suite.{Suite}
 use Rattle.sums.proofs.Members.{from_map}
 use Rattle.suites.proofs.ListMembers.{from_flat_map}
-use Rattle.suites.proofs.ShownLemmas.{true_from_T}
 use Rattle.suites.specs.Items.{standing}
 use Rattle.suites.specs.KeyLemmas.{key_order_total, key_order-IsAntisymmetric}
 use Rattle.suites.specs.Keys.{key_order}
@@ -27,30 +19,12 @@ use Rattle.suites.specs.Shelves.{ShelvesValue, shown, version_of}
 use Rattle.suites.proofs.Unchanged.{shown_again}
 use Rattle.suites.specs.declared.item.Item.{Item}
 use Rattle.suites.specs.declared.key.ShelfKey.{ShelfKey}
-use Rattle.history.specs.Copies.{is_item_of, shows_source}
-use Rattle.history.specs.Promotions.{keys_in}
-use Rattle.history.proofs.DatesCounts.{T_from_true, find_filter, shown_elsewhere, sorted_filter}
+use Rattle.suites.proofs.PassingEntries.{find-filter}
+use Rattle.suites.proofs.EntryLemmas.{sorted-filter}
+use Rattle.history.specs.Copies.{shows_source}
+use Rattle.history.proofs.DatesCounts.{shown_elsewhere}
 
 -- ---- groups
-
--- one more shelf in the group of a source package
-pub keys_added : (m mid n : BTreeMap (String Global) (Vec ShelfKey Global)) (v : Vec ShelfKey Global) (bs p : List ℕ) (key : ShelfKey)
-    → UpdatesBy string_cmp (λ k. slice_cmp nat_cmp bs (string_bytes k)) mid n (Some v) → bs ≡ p → v.items ≡ keys_in (get_by_text m p) ++ key ∷ []
-    → ((q : List ℕ) → bytes_eq p q ≡ false → get_by_text mid q ≡ get_by_text m q)
-    → (q : List ℕ) → keys_in (get_by_text n q) ≡ keys_in (get_by_text m q) ++ cond (bytes_eq p q) (key ∷ []) []
-keys_added m mid n v bs p key updates e is others q =
-    ap keys_in (btree_map_updates_text bs mid n (Some v) updates q ∙ ap (λ r. cond (bytes_eq r q) (Some v) (get_by_text mid q)) e)
-    ∙ by_kind (bytes_eq p q) refl
-  where
-    by_kind : (b : Bool) → bytes_eq p q ≡ b → keys_in (cond b (Some v) (get_by_text mid q)) ≡ keys_in (get_by_text m q) ++ cond b (key ∷ []) []
-    by_kind true t = is ∙ ap (λ r. keys_in (get_by_text m r) ++ key ∷ []) ((bytes_eq-Decides p q).0 t)
-    by_kind false t = ap keys_in (others q t) ∙ sym (append-nil (keys_in (get_by_text m q)))
-
--- the group of a source package without what it has at other names
-pub taken_apart : (m n : BTreeMap (String Global) (Vec ShelfKey Global)) (bs : List ℕ) → UpdatesBy string_cmp (λ k. slice_cmp nat_cmp bs (string_bytes k)) m n None
-    → (q : List ℕ) → bytes_eq bs q ≡ false → get_by_text n q ≡ get_by_text m q
-taken_apart m n bs updates q other =
-    btree_map_updates_text bs m n None updates q ∙ ap (λ b. cond b None (get_by_text m q)) other
 
 -- the shelves of these items that are of the suite and the source package
 abbrev pub keys_among : ℕ → List ℕ → List (ShelfKey × Item) → List ShelfKey
@@ -76,7 +50,7 @@ key-push suite source done e =
 
 -- there is a shelf if the suite shows an item of the source package
 pub shown_by_shelves : (m : ShelvesValue) (from : ℕ) (source : List ℕ) → not (length (shelves_of m from source) == 0) ≡ shows_source m from source
-unfolding shelves_of is_of_source shows_source is_item_of
+unfolding shelves_of is_of_source shows_source
 shown_by_shelves m from source = some_of (λ (e : ShelfKey × Item). nat_eq e.0.suite from && bytes_eq e.1.source source) (entries m)
   where
     some_first : (e : ShelfKey × Item) (xs : List (ShelfKey × Item)) (others b : Bool) → not (length (map (λ (a : ShelfKey × Item). a.0) xs) == 0) ≡ others
@@ -129,11 +103,11 @@ module _ (config : ConfigValue) (m : ShelvesValue) (from to : ℕ) (source name 
   same_there k false apart = none_pass k (get after k) apart ∙ sym (none_pass k (get m k) apart)
 
   sorted_of : (s : ShelvesValue) → T (is_sorted key_order (filter of_name (entries s)))
-  sorted_of s = T_from_true _ (sorted_filter key_order of_name (entries s) (true_from_T _ (entries_sorted s)))
+  sorted_of s = sorted-filter key_order of_name (entries s) (entries_sorted s)
 
   found_of : (s : ShelvesValue) (k : ShelfKey) → find key_order k (filter of_name (entries s)) ≡ passing k (get s k)
   found_of s k =
-      find_filter key_order_total key_order-IsAntisymmetric of_name k (entries s) (true_from_T _ (entries_sorted s)) ∙ ap (passing k) (sym (get-entries s k))
+      find-filter key_order_total key_order-IsAntisymmetric of_name k (entries s) (entries_sorted s) ∙ ap (passing k) (sym (get-entries s k))
 
   -- A copy to another suite leaves the group of each source package.
   pub group_stays : shelves_of after from name ≡ shelves_of m from name

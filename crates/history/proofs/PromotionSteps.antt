@@ -14,10 +14,10 @@ use Rattle.suites.specs.Plan.{after_copy}
 use Rattle.suites.specs.Shelves.{ShelvesValue}
 use Rattle.suites.specs.declared.item.Item.{Item}
 use Rattle.suites.specs.declared.key.ShelfKey.{ShelfKey}
-use Rattle.keep.specs.Book.{judgements, shown_past}
-use Rattle.keep.specs.Keeping.{AreSteps}
-use Rattle.keep.specs.declared.change.Judgement.{Judgement}
-use Rattle.keep.specs.declared.change.Step.{Step}
+use Rattle.book.specs.Book.{judgements, shown_past}
+use Rattle.book.specs.Keeping.{AreSteps}
+use Rattle.book.specs.declared.change.Judgement.{Judgement}
+use Rattle.book.specs.declared.change.Step.{Step}
 use Rattle.history.specs.Archives.{each_once, with_name}
 use Rattle.history.specs.Promotions.{AreCopied, IsCopyStep, after_copies, copies_on, items_put}
 

@@ -13,8 +13,8 @@ use Rattle.records.specs.declared.fault.RecordFault.{RecordFault}
 use Rattle.records.specs.declared.fault.RecordFault.TheVariants as record_faults
 use Rattle.rules.specs.Sizes.{largest}
 use Rattle.rules.specs.Values.{ConfigValue}
-use Rattle.keep.specs.Book.{Book, latest}
-use Rattle.keep.specs.declared.keeper.Keeper.{Ghosts}
+use Rattle.book.specs.Book.{Book, latest}
+use Rattle.book.specs.declared.keeper.Keeper.{Ghosts}
 use Rattle.history.specs.Answers.{IsFaithful, IsKept, IsStep, answer}
 use Rattle.history.specs.Archives.{book_of}
 use Rattle.history.specs.Commands.{is_new, stored}

@@ -12,9 +12,9 @@ use Rattle.suites.specs.Shelves.{ShelvesValue}
 use Rattle.suites.specs.Told.{AreTold}
 use Rattle.suites.specs.declared.plan.Plan.{Plan}
 use Rattle.suites.proofs.RemovalLemmas.{told_after_removal}
-use Rattle.keep.specs.Book.{Book, amended, at_moment, due, judgements, latest, shown_past}
-use Rattle.keep.specs.Keeping.{AreSteps, HasEachBody, sign_of, sign_on}
-use Rattle.keep.specs.declared.change.Step.{Step}
+use Rattle.book.specs.Book.{Book, amended, at_moment, due, judgements, latest, shown_past}
+use Rattle.book.specs.Keeping.{AreSteps, HasEachBody, sign_of, sign_on}
+use Rattle.book.specs.declared.change.Step.{Step}
 use Rattle.history.specs.Amending.{IsPlanned, OnceAmended, steps_at}
 use Rattle.history.specs.Answers.{IsAnswer, IsFaithful, IsKept, IsStep, answer, is_free_removal, is_refused}
 use Rattle.history.specs.Archives.{Stands, archive, book_from, book_of, shown_by_print, shown_in, suite_named}

@@ -18,12 +18,12 @@ use Rattle.suites.specs.declared.item.PoolFile.{PoolFile}
 use Rattle.suites.specs.declared.key.ShelfKey.{ShelfKey}
 use Rattle.suites.proofs.HeldLemmas.{append_nil}
 use Rattle.suites.proofs.ShownLemmas.{shown_after-none}
-use Rattle.keep.specs.Book.{Book, HasItsFiles}
+use Rattle.suites.proofs.FileMembers.{member_found, found_member}
+use Rattle.book.specs.Book.{Book, HasItsFiles}
 use Rattle.history.specs.Archives.{BodyItem, Stands, all_acts, archive, archive_of, book_from, book_of, pool_in, printed, shown_by_print, with_bodies}
 use Rattle.history.specs.Answers.{IsFaithful}
 use Rattle.history.specs.Histories.{Call, History, arrived, bodies_of, bodies_of_call, calls_of}
 use Rattle.history.proofs.Contents.{pool_item, shown_member}
-use Rattle.history.proofs.ContentsMaps.{Contains-found, find-Contains}
 use Rattle.history.proofs.Known.{apart_with_empty, known}
 use Rattle.history.proofs.PoolPrints.{get-pool}
 
@@ -63,8 +63,8 @@ module _ (book : Book) (its : HasItsFiles book) where
   pooled : (f : List ℕ × Print) → Contains (files_of (values book.shown)) f → get (pool book.shown) f.0 ≡ Some f.1
   pooled f at =
       let files = files_of (values book.shown) in
-      let found = Contains-found text_order_total text_order-IsAntisymmetric f.0 files f.1 at in
-      let theirs : Contains files (f.0, found.0) = find-Contains text_order_total text_order-IsAntisymmetric f.0 files found.0 found.1 in
+      let found = found_member text_order_total f.0 f.1 files at in
+      let theirs : Contains files (f.0, found.0) = member_found text_order-IsAntisymmetric f.0 found.0 files found.1 in
       get-from_entries text_order_total files f.0 ∙ found.1 ∙ ap Some (its.agreed f.0 found.0 f.1 theirs at)
 
   -- the body at the path of a file has its print

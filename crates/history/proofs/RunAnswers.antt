@@ -6,9 +6,9 @@ use Rattle.std.proofs.lemmas.Bool.{lt-ltb, le-ltb}
 use Rattle.rules.specs.Values.{ConfigValue}
 use Rattle.suites.specs.Shelves.{AreSound, ShelvesValue}
 use Rattle.suites.specs.Upload.{UploadValue}
-use Rattle.keep.specs.Book.{Book, Candidate, amended, at_moment, due, judgements, latest, upload_of}
-use Rattle.keep.specs.Keeping.{Apart, HasBodies, HasEachBody, sign_of}
-use Rattle.keep.specs.declared.change.Step.{Step}
+use Rattle.book.specs.Book.{Book, Candidate, amended, at_moment, due, judgements, latest, upload_of}
+use Rattle.book.specs.Keeping.{Apart, HasBodies, HasEachBody, sign_of}
+use Rattle.book.specs.declared.change.Step.{Step}
 use Rattle.history.specs.Amending.{IsPlanned, OnceAmended, steps_at}
 use Rattle.history.specs.Answers.{IsAnswer, IsFaithful, IsStep, answer, is_refused, new_lines, report_line}
 use Rattle.history.specs.Archives.{Stands, Whole, acted, acts_of, archive, book_of, whole_of}

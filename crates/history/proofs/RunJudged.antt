@@ -1,16 +1,17 @@
 -- What the steps of judged uploads are: sound, signed as the uploads, and the way to the shelves after them.
-use Rattle.std.proofs.Common.{◌≡◌, ℕ, suc, List, [], ◌∷◌, ◌++◌, map, take, length, Some, refl, sym, ap, subst, ◌∙◌}
+use Rattle.std.proofs.Common.{◌≡◌, ℕ, List, [], ◌∷◌, ◌++◌, map, take, length, Some, refl, sym, ap, subst, ◌∙◌}
 use Rattle.std.specs.List.{cons_option}
+use Rattle.std.proofs.lemmas.List.{length-map}
 use Rattle.rules.specs.Values.{ConfigValue}
 use Rattle.suites.specs.Plan.{after_upload}
 use Rattle.suites.specs.Shelves.{ShelvesValue}
 use Rattle.suites.specs.Told.{AreTold}
 use Rattle.suites.specs.Upload.{UploadValue}
 use Rattle.sums.specs.declared.print.Print.{Print}
-use Rattle.keep.specs.Book.{Book, Candidate, at_moment, due, judgements, shown_past}
-use Rattle.keep.specs.Keeping.{AreSteps, sign_of, sign_on}
-use Rattle.keep.specs.declared.change.Judgement.{Judgement}
-use Rattle.keep.specs.declared.change.Step.{Step}
+use Rattle.book.specs.Book.{Book, Candidate, at_moment, due, judgements, shown_past}
+use Rattle.book.specs.Keeping.{AreSteps, sign_of, sign_on}
+use Rattle.book.specs.declared.change.Judgement.{Judgement}
+use Rattle.book.specs.declared.change.Step.{Step}
 use Rattle.history.specs.Amending.{IsPlanned}
 use Rattle.history.specs.Judging.{AreJudged, IsJudged, after_uploads, judgement_on}
 
@@ -45,10 +46,6 @@ signs_are config shelves (u ∷ us) (s ∷ ss) are =
     ap (map sign_on) (first_judged s ss (judgement_on config shelves u) are.0.judgement)
     ∙ ap (λ rest. sign_in u ∷ rest) (signs_are config (after_upload config shelves u) us ss are.1)
 
-map_length : {X Y : Type 0} (f : X → Y) (xs : List X) → length (map f xs) ≡ length xs
-map_length f [] = refl
-map_length f (x ∷ xs) = ap suc (map_length f xs)
-
 take_all : {X : Type 0} (xs : List X) → take (length xs) xs ≡ xs
 take_all [] = refl
 take_all (x ∷ xs) = ap (λ rest. x ∷ rest) (take_all xs)
@@ -73,7 +70,7 @@ pub is_planned : (book : Book) (moment : ℕ) (us : List UploadValue) (steps : L
 is_planned book moment us steps shelves are signs is stays =
     let cs : List Candidate = due (at_moment moment book) in
     let all : map sign_on (judgements steps) ≡ map sign_of cs = signs_are book.config book.shown us steps are ∙ signs in
-    let count : length (judgements steps) ≡ length cs = sym (map_length sign_on (judgements steps)) ∙ ap length all ∙ map_length sign_of cs in
+    let count : length (judgements steps) ≡ length cs = sym (length-map (judgements steps) sign_on) ∙ ap length all ∙ length-map cs sign_of in
     record {
       plans = steps_are book.config book.shown us steps are;
       judged = all ∙ ap (map sign_of) (sym (ap (λ n. take n cs) count ∙ take_all cs));

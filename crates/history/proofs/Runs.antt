@@ -4,8 +4,8 @@ use Rattle.std.proofs.Common.{ap, sym, subst, ◌∙◌, append_assoc, inl, inr}
 use Rattle.std.proofs.lemmas.List.{map-append}
 use Rattle.std.proofs.lemmas.Grind.{flat_map-append}
 use Rattle.std.proofs.lemmas.List.Elements.{Contains-append_left}
-use Rattle.keep.specs.Book.{Book}
-use Rattle.keep.specs.declared.keeper.Keeper.{Ghosts}
+use Rattle.book.specs.Book.{Book}
+use Rattle.book.specs.declared.keeper.Keeper.{Ghosts}
 use Rattle.history.specs.Histories.{Call, Delivery, Reply, Turn, History, followed, bodies_of, bodies_of_call, calls_of}
 use Rattle.history.specs.Answers.{IsFaithful, IsKept, IsRun}
 use Rattle.history.specs.Archives.{book_of}

@@ -4,6 +4,7 @@ use Rattle.std.specs.FinMap.{entries, from_entries, get, values}
 use Rattle.std.specs.List.{list_any}
 use Rattle.std.proofs.lemmas.List.{map-append}
 use Rattle.sums.specs.Prints.{print as print_of}
+use Rattle.sums.proofs.Words.{list_any-map}
 use Rattle.suites.specs.Held.{held_behind, held}
 use Rattle.suites.specs.Items.{Admitted, item_with, item_of}
 use Rattle.suites.specs.KeyLemmas.{key_order_total}
@@ -16,10 +17,6 @@ use Rattle.history.specs.Archives.{BodyItem, PlainArchive, printed, shown_by_pri
 use Rattle.history.proofs.ContentsMaps.{entries-map, get-map}
 
 module _ {X Y : Type 0} (f : X → Y) (covers beats : Y → Y → Bool) where
-  any-map : (p : Y → Bool) (xs : List X) → list_any p (map f xs) ≡ list_any (λ x. p (f x)) xs
-  any-map p [] = refl
-  any-map p (x ∷ xs) = ap (λ b. p (f x) || b) (any-map p xs)
-
   map-cond : (b : Bool) (x : X) (xs : List X) → cond b (map f xs) (f x ∷ map f xs) ≡ map f (cond b xs (x ∷ xs))
   map-cond true x xs = refl
   map-cond false x xs = refl
@@ -36,7 +33,7 @@ module _ {X Y : Type 0} (f : X → Y) (covers beats : Y → Y → Bool) where
       let rest : held_behind covers beats (map f earlier ++ f x ∷ []) (map f xs) ≡ map f (held_behind covers_of beats_of (earlier ++ x ∷ []) xs) =
       ap (λ es. held_behind covers beats es (map f xs)) (sym (map-append f earlier (x ∷ []))) ∙ held_behind-map (earlier ++ x ∷ []) xs in
       let test : (list_any (λ y. covers y (f x)) (map f earlier) || list_any (λ y. beats y (f x)) (map f xs)) ≡ (list_any (λ y. covers_of y x) earlier || list_any (λ y. beats_of y x) xs) =
-      ap₂ (λ (a b : Bool). a || b) (any-map (λ y. covers y (f x)) earlier) (any-map (λ y. beats y (f x)) xs) in
+      ap₂ (λ (a b : Bool). a || b) (list_any-map f (λ y. covers y (f x)) earlier) (list_any-map f (λ y. beats y (f x)) xs) in
       ap₂ (λ b l. cond b l (f x ∷ l)) test rest
       ∙ map-cond (list_any (λ y. covers_of y x) earlier || list_any (λ y. beats_of y x) xs) x (held_behind covers_of beats_of (earlier ++ x ∷ []) xs)
 

@@ -1,10 +1,10 @@
 -- Uploads judged by prints on what the book shows equal uploads handed whole to the plain archive.
 use Rattle.std.proofs.Common.{◌≡◌, ℕ, List, [], ◌∷◌, ◌++◌, map, fold, Option, Some, refl, sym, ap, ◌∙◌, subst, append_assoc, append-nil}
 use Rattle.std.specs.Prelude.{⊤}
-use Rattle.keep.specs.Book.{dates_after, dates_past, judgements, shown_past}
-use Rattle.keep.specs.Keeping.{AreSteps, NoCollision}
-use Rattle.keep.specs.declared.change.Judgement.{Judgement}
-use Rattle.keep.specs.declared.change.Step.{Step}
+use Rattle.book.specs.Book.{dates_after, dates_past, judgements, shown_past}
+use Rattle.book.specs.Keeping.{AreSteps, NoCollision}
+use Rattle.book.specs.declared.change.Judgement.{Judgement}
+use Rattle.book.specs.declared.change.Step.{Step}
 use Rattle.rules.specs.Values.{ConfigValue}
 use Rattle.suites.specs.Items.{Admitted}
 use Rattle.suites.specs.Plan.{IsStep, admitted_if, after_upload, applied}

@@ -3,10 +3,10 @@ use Rattle.std.proofs.Common.{◌≡◌, ℕ, Bool, true, false, cond, ◌&&◌,
 use Rattle.std.specs.Prelude.{Contains, bytes_eq}
 use Rattle.std.specs.FinMap.{entries, get, values}
 use Rattle.std.specs.List.{list_any}
-use Rattle.keep.specs.Book.{Book, amended, latest}
-use Rattle.keep.specs.Keeping.{HasEachBody, NoCollision}
-use Rattle.keep.specs.declared.arrival.Arrival.{Arrival}
-use Rattle.keep.specs.declared.change.Step.{Step}
+use Rattle.book.specs.Book.{Book, amended, latest}
+use Rattle.book.specs.Keeping.{HasEachBody, NoCollision}
+use Rattle.book.specs.declared.arrival.Arrival.{Arrival}
+use Rattle.book.specs.declared.change.Step.{Step}
 use Rattle.rules.specs.Suites.{keeps_architecture, keeps_component}
 use Rattle.rules.specs.Values.{ConfigValue}
 use Rattle.rules.specs.declared.suite.Suite.{Suite}

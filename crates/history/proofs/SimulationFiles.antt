@@ -6,10 +6,11 @@ use Rattle.std.specs.Option.{option_or}
 use mathlib.Core.Path.{fun_ext}
 use Rattle.std.proofs.lemmas.List.Elements.{Contains-append_cases, Contains-append_left, Contains-append_right}
 use Rattle.std.proofs.lemmas.Option.{same_Some}
-use Rattle.keep.specs.Book.{Book, amended, files_showing, stored_body}
-use Rattle.keep.specs.Keeping.{HasEachBody, NoCollision}
-use Rattle.keep.specs.declared.arrival.Arrival.{Arrival}
-use Rattle.keep.specs.declared.change.Change.{Change}
+use Rattle.book.specs.Book.{Book, amended, files_showing, stored_body}
+use Rattle.book.specs.Keeping.{HasEachBody, NoCollision}
+use Rattle.book.specs.declared.arrival.Arrival.{Arrival}
+use Rattle.book.specs.declared.change.Change.{Change}
+use Rattle.book.proofs.Prints.{same_print-Decides}
 use Rattle.rules.specs.Judgement.{component}
 use Rattle.rules.specs.Values.{ConfigValue}
 use Rattle.rules.specs.declared.verdict.Verdict.TheVariants.{Accepted}
@@ -24,17 +25,16 @@ use Rattle.suites.specs.Pool.{AreAgreed, files_of, files_with}
 use Rattle.suites.specs.Shelves.{ShelvesValue, pool, shown}
 use Rattle.suites.proofs.ShownLemmas.{shown_after-shown}
 use Rattle.suites.specs.Upload.{file_at, items_of}
+use Rattle.suites.proofs.FileMembers.{member_found, found_member}
 use Rattle.history.specs.Archives.{BodyItem, PlainArchive, WholeUpload, book_from, by_body, contents_of, items_given, pool_in, shown_by_print, shown_in, version_with, whole, with_admitted}
 use Rattle.history.proofs.Contents.{AreMadeOf, admitted_if_member, given_member, pool_item, pool_known, shown_member}
 use Rattle.history.proofs.ContentsListed.{HasItsBodies}
-use Rattle.history.proofs.ContentsMaps.{Contains-found, find-Contains}
 use Rattle.history.proofs.ContentsWhole.{found_by}
 use Rattle.history.proofs.ItemPrints.{verdict_in}
 use Rattle.history.proofs.ItemPrintsFiles.{items_listed}
 use Rattle.history.proofs.ItemPrintsRows.{listed_contents, no_row_applies}
 use Rattle.history.proofs.PoolPrints.{files-shown_by_print, get-pool, printed_file}
 use Rattle.history.proofs.Simulation.{AreSimulated, handed}
-use Rattle.history.proofs.VerdictPrints.{equal-same_print}
 
 -- a body of one of the arrivals
 abbrev pub HasCome : List Arrival → List ℕ → Type 0
@@ -63,9 +63,9 @@ pub shown_stored : (bodies : List (List ℕ)) (arrivals : List Arrival) (a : Pla
 shown_stored bodies arrivals a apart made agreed e at file k =
     let files = files_with (values (shown_in a)) in
     let mine : Contains files (file.path, file.contents) = file_in (values (shown_in a)) e.1 file (contains_map (λ (x : Admitted (List ℕ)). x.1) e (entries (shown_in a)) at) k in
-    let found = Contains-found text_order_total text_order-IsAntisymmetric file.path files file.contents mine in
+    let found = found_member text_order_total file.path file.contents files mine in
     let held : get (pool_in a) file.path ≡ Some found.0 = get-from_entries text_order_total files file.path ∙ found.1 in
-    let theirs : Contains files (file.path, found.0) = find-Contains text_order_total text_order-IsAntisymmetric file.path files found.0 found.1 in
+    let theirs : Contains files (file.path, found.0) = member_found text_order-IsAntisymmetric file.path found.0 files found.1 in
     let printed = λ (body : List ℕ) (h : Contains files (file.path, body)). subst (λ (fs : List (List ℕ × Print)). Contains fs (file.path, print_of body)) (sym (files-shown_by_print a)) (contains_map printed_file (file.path, body) files h) in
     let prints : print_of found.0 ≡ print_of file.contents = agreed file.path (print_of found.0) (print_of file.contents) (printed found.0 theirs) (printed file.contents mine) in
     let same : found.0 ≡ file.contents = apart found.0 file.contents (pool_known bodies a made file.path found.0 held) (made e (shown_member a.admitted e at) file k) prints in
@@ -139,7 +139,7 @@ come_found : (bodies : List (List ℕ)) (arrivals : List Arrival) (body : List �
     → option_map (λ a. a.body) (find (λ a. same_print (print_of a.body) (print_of body)) arrivals) ≡ Some body
 come_found bodies arrivals body apart from come =
     let test = λ (a : Arrival). same_print (print_of a.body) (print_of body) in
-    let some = any_true test arrivals come.0 come.1 (equal-same_print (print_of (come.0).body) (print_of body) (ap print_of come.2)) in
+    let some = any_true test arrivals come.0 come.1 ((same_print-Decides (print_of (come.0).body) (print_of body)).1 (ap print_of come.2)) in
     let m = found_by test arrivals some (find test arrivals) refl in
     ap (option_map (λ (a : Arrival). a.body)) m.1
     ∙ ap Some (apart (m.0).body body (from m.0 m.2) (subst (λ b. Contains bodies b) come.2 (from come.0 come.1)) (same_print-equal (print_of (m.0).body) (print_of body) m.3))
@@ -157,7 +157,7 @@ stored_held : (body : List ℕ) (found held : Option (List ℕ)) → held ≡ So
     → option_or (option_and_then (λ there. cond (same_print (print_of there) (print_of body)) (Some there) None) held) found ≡ Some body
 stored_held body found held h =
     ap (λ o. option_or (option_and_then (λ there. cond (same_print (print_of there) (print_of body)) (Some there) None) o) found) h
-    ∙ ap (λ b. option_or (cond b (Some body) None) found) (equal-same_print (print_of body) (print_of body) refl)
+    ∙ ap (λ b. option_or (cond b (Some body) None) found) ((same_print-Decides (print_of body) (print_of body)).1 refl)
 
 stored : (bodies : List (List ℕ)) (config : ConfigValue) (arrivals : List Arrival) (a : PlainArchive) → NoCollision bodies → AreFrom bodies arrivals → AreMadeOf bodies a.admitted
     → (file : FileWith (List ℕ)) → IsStored arrivals a file → stored_body (book_from config arrivals a) file.path (print_of file.contents) ≡ Some file.contents

@@ -4,11 +4,11 @@ use Rattle.std.specs.Prelude.{Contains}
 use Rattle.std.specs.FinMap.{entries, values}
 use Rattle.std.specs.List.{cons_option, list_any}
 use Rattle.std.proofs.lemmas.Simd.{map-map}
-use Rattle.keep.specs.Book.{Book, amended, dates_past, judgements, latest, shown_past}
-use Rattle.keep.specs.Keeping.{AreSteps, HasEachBody, NoCollision}
-use Rattle.keep.specs.declared.arrival.Arrival.{Arrival}
-use Rattle.keep.specs.declared.change.Judgement.{Judgement}
-use Rattle.keep.specs.declared.change.Step.{Step}
+use Rattle.book.specs.Book.{Book, amended, dates_past, judgements, latest, shown_past}
+use Rattle.book.specs.Keeping.{AreSteps, HasEachBody, NoCollision}
+use Rattle.book.specs.declared.arrival.Arrival.{Arrival}
+use Rattle.book.specs.declared.change.Judgement.{Judgement}
+use Rattle.book.specs.declared.change.Step.{Step}
 use Rattle.rules.specs.Values.{ConfigValue}
 use Rattle.suites.specs.Items.{Admitted}
 use Rattle.suites.specs.Plan as plans
@@ -16,10 +16,11 @@ use Rattle.suites.specs.Pool.{AreAgreed, files_of}
 use Rattle.suites.specs.Shelves.{AreSound, ShelvesValue}
 use Rattle.suites.specs.declared.item.Item.{Item}
 use Rattle.suites.specs.declared.key.ShelfKey.{ShelfKey}
+use Rattle.suites.specs.Plan.{is_of_source}
 use Rattle.history.specs.Amending.{steps_at}
 use Rattle.history.specs.Answers.{IsFaithful, IsStep, answer, copies_in, new_items}
 use Rattle.history.specs.Archives.{BodyItem, PlainArchive, Stands, acted, acts_of, archive, book_from, book_of, copied, copied_all, each_once, is_shown_of, items_copied, printed, shown_by_print, shown_in, sources_in, sources_shown, suite_named, with_admitted}
-use Rattle.history.specs.Copies.{is_item_of, shows_source}
+use Rattle.history.specs.Copies.{shows_source}
 use Rattle.history.specs.Histories.{Copies, History, Promoting, arrivals_after, arrived, followed}
 use Rattle.history.specs.Promotions.{AreCopied, IsCopyStep, copies_on, items_put, sources_from, sources_on}
 use Rattle.history.proofs.Contents.{AreMadeOf}
@@ -37,7 +38,7 @@ use Rattle.history.proofs.Steps.{book_of-followed}
 
 -- whether a suite shows an item of the source package, by prints
 shows-printed : (a : PlainArchive) (from : ℕ) (source : List ℕ) → shows_source (shown_by_print a) from source ≡ list_any (is_shown_of from source) (entries (shown_in a))
-unfolding shows_source is_item_of
+unfolding shows_source is_of_source
 shows-printed a from source = shown_of-printed a from source
 
 -- the source packages of which a suite shows an item, by prints

@@ -6,10 +6,10 @@ use Rattle.std.specs.List.{enumerate_from, list_any}
 use mathlib.Core.Path.{fun_ext}
 use Rattle.std.proofs.lemmas.List.{length-map}
 use Rattle.std.proofs.lemmas.Slice.Eq.{bytes_eq-Decides}
-use Rattle.keep.specs.Book.{Book, amended, dates_after, latest, touches}
-use Rattle.keep.specs.Keeping.{HasEachBody, NoCollision}
-use Rattle.keep.specs.declared.arrival.Arrival.{Arrival}
-use Rattle.keep.specs.declared.change.Step.{Step}
+use Rattle.book.specs.Book.{Book, amended, dates_after, latest, touches}
+use Rattle.book.specs.Keeping.{HasEachBody, NoCollision}
+use Rattle.book.specs.declared.arrival.Arrival.{Arrival}
+use Rattle.book.specs.declared.change.Step.{Step}
 use Rattle.rules.specs.Values.{ConfigValue}
 use Rattle.suites.specs.Items.{Admitted}
 use Rattle.suites.specs.KeyLemmas.{key_order_total, key_order-IsAntisymmetric}
@@ -22,17 +22,19 @@ use Rattle.suites.specs.declared.key.ShelfKey.{ShelfKey}
 use Rattle.suites.specs.declared.plan.Plan.{Plan}
 use Rattle.suites.proofs.RemovalLemmas as removals
 use Rattle.suites.proofs.RemovalLemmas.{is_left}
+use Rattle.suites.proofs.FileMembers.{get_member, member_get}
+use Rattle.suites.proofs.ListTests.{list_any-filter}
+use Rattle.sums.proofs.Words.{list_any-map}
 use Rattle.history.specs.Amending.{steps_at}
 use Rattle.history.specs.Answers.{IsFaithful, IsStep, answer, count_of_shown}
 use Rattle.history.specs.Archives.{BodyItem, PlainArchive, Stands, acted, acts_of, archive, book_from, book_of, has_more, is_changed, printed, removed, shown_by_print, shown_in, suite_named, version_with, with_admitted}
 use Rattle.history.specs.Histories.{Removing, Count, History, arrivals_after, arrived, followed}
 use Rattle.history.proofs.Contents.{AreMadeOf}
-use Rattle.history.proofs.ContentsMaps.{Contains-get, get-Contains}
 use Rattle.history.proofs.Dates.{has_version, no_more}
-use Rattle.history.proofs.Judged.{any_agree_on, any_filter}
+use Rattle.history.proofs.Judged.{any_agree_on}
 use Rattle.history.proofs.Kept.{stands_kept}
 use Rattle.history.proofs.Known.{archive_has, faithful_knows, has_empty, known, with_empty}
-use Rattle.history.proofs.Lists.{all_from_contained, list_any-map}
+use Rattle.history.proofs.Lists.{all_from_contained}
 use Rattle.history.proofs.ShownPrints.{entries-shown_by_print}
 use Rattle.history.proofs.Simulation.{AreSimulated}
 use Rattle.history.proofs.SimulationFiles.{AreFrom, AreStored, amended-simulated, bodies-simulated, shown_stored}
@@ -70,7 +72,7 @@ pub shows-printed : (a : PlainArchive) (suite : ℕ) (name : List ℕ) → list_
 unfolding is_removed
 shows-printed a suite name =
     ap (list_any (λ (e : ShelfKey × Item). is_removed suite name e)) (entries-shown_by_print a)
-    ∙ list_any-map (λ (e : ShelfKey × Item). is_removed suite name e) printed (entries (shown_in a))
+    ∙ list_any-map printed (λ (e : ShelfKey × Item). is_removed suite name e) (entries (shown_in a))
 
 -- ---- what is shown then
 
@@ -93,8 +95,8 @@ was_there false o x h = cc
 -- what is shown then was shown before
 left_shown : (moment : ℕ) (a : PlainArchive) (suite : ℕ) (name : List ℕ) (e : Admitted (List ℕ)) → Contains (entries (shown_in (removed moment a suite name))) e → Contains (entries (shown_in a)) e
 left_shown moment a suite name e at =
-    let found : get (shown_in (removed moment a suite name)) e.0 ≡ Some e.1 = Contains-get key_order_total key_order-IsAntisymmetric (shown_in (removed moment a suite name)) e at in
-    get-Contains key_order_total key_order-IsAntisymmetric (shown_in a) e.0 e.1 (was_there (is_left suite name e.0) (get (shown_in a) e.0) e.1 (sym (get-removed moment a suite name e.0) ∙ found))
+    let found : get (shown_in (removed moment a suite name)) e.0 ≡ Some e.1 = member_get key_order_total (shown_in (removed moment a suite name)) e at in
+    get_member key_order-IsAntisymmetric (shown_in a) e.0 e.1 (was_there (is_left suite name e.0) (get (shown_in a) e.0) e.1 (sym (get-removed moment a suite name e.0) ∙ found))
 
 pub removed_stored : (arrivals : List Arrival) (moment : ℕ) (a : PlainArchive) (suite : ℕ) (name : List ℕ) → AreStored arrivals a (entries (shown_in a))
     → AreStored arrivals a (entries (shown_in (removed moment a suite name)))
@@ -123,9 +125,9 @@ module _ (s suite : ℕ) (name : List ℕ) (old new : ShelvesWith BodyItem) (lef
       (all_from_contained (λ (e : ShelfKey × BodyItem). (nat_eq e.0.suite s && not (has_version (get new e.0) e.1)) ≡ (is_removed suite name e && nat_eq e.0.suite s)) (entries old)
       (λ e at.
       ap (λ o. nat_eq e.0.suite s && not (has_version o e.1))
-      (left e.0 ∙ ap (λ o. cond (is_left suite name e.0) o None) (Contains-get key_order_total key_order-IsAntisymmetric old e at))
+      (left e.0 ∙ ap (λ o. cond (is_left suite name e.0) o None) (member_get key_order_total old e at))
       ∙ at_entry (nat_eq e.0.suite s) (is_removed suite name e) e.1))
-      ∙ sym (any_filter (λ (e : ShelfKey × BodyItem). nat_eq e.0.suite s) (λ (e : ShelfKey × BodyItem). is_removed suite name e) (entries old))
+      ∙ sym (list_any-filter (λ (e : ShelfKey × BodyItem). nat_eq e.0.suite s) (λ (e : ShelfKey × BodyItem). is_removed suite name e) (entries old))
 
   -- THE SUITE shows something else exactly if an item of it is taken.
   changed-removed : is_changed s old new ≡ list_any (λ (e : ShelfKey × BodyItem). nat_eq e.0.suite s) (filter (λ (e : ShelfKey × BodyItem). is_removed suite name e) (entries old))
@@ -138,7 +140,7 @@ unfolding touches
 touches-removed s a suite name plan put dropped =
     ap (λ (es : List (ShelfKey × Item)). list_any (λ (e : ShelfKey × Item). nat_eq e.0.suite s) es || list_any (λ (e : ShelfKey × Item). nat_eq e.0.suite s) plan.dropped) put
     ∙ ap (list_any (λ (e : ShelfKey × Item). nat_eq e.0.suite s)) (dropped ∙ taken-printed a suite name)
-    ∙ list_any-map (λ (e : ShelfKey × Item). nat_eq e.0.suite s) printed (filter (λ (e : ShelfKey × BodyItem). is_removed suite name e) (entries (shown_in a)))
+    ∙ list_any-map printed (λ (e : ShelfKey × Item). nat_eq e.0.suite s) (filter (λ (e : ShelfKey × BodyItem). is_removed suite name e) (entries (shown_in a)))
 
 -- the dates of all suites
 dates-removed : (moment : ℕ) (a : PlainArchive) (suite : ℕ) (name : List ℕ) (plan : Plan) → plan.put ≡ [] → plan.dropped ≡ plans.removed (shown_by_print a) suite name

@@ -6,16 +6,16 @@ use Rattle.std.specs.Ordering.{is_gt}
 use Rattle.std.specs.Result.{result_ok}
 use Rattle.std.proofs.Math.Seq.{drop-append_seam}
 use Rattle.std.proofs.lemmas.Option.{same_Some}
-use Rattle.keep.specs.Book.{Book, Candidate, amended, at_moment, candidate_of, candidates, due, in_order, is_complete, judgements, candidate_order, latest, put_in_order, span, upload_of}
-use Rattle.keep.specs.Keeping.{HasEachBody, NoCollision}
-use Rattle.keep.specs.declared.arrival.Arrival.{Arrival}
-use Rattle.keep.specs.declared.change.Step.{Step}
-use Rattle.keep.proofs.Moments.{current-part}
+use Rattle.book.specs.Book.{Book, Candidate, amended, at_moment, candidate_of, candidates, due, in_order, is_complete, judgements, candidate_order, latest, put_in_order, span, upload_of}
+use Rattle.book.specs.Keeping.{HasEachBody, NoCollision}
+use Rattle.book.specs.declared.arrival.Arrival.{Arrival}
+use Rattle.book.specs.declared.change.Step.{Step}
+use Rattle.book.proofs.Moments.{current-part}
 use Rattle.records.specs.Records.{changes_in}
 use Rattle.records.specs.Values.{ChangesValue}
 use Rattle.rules.specs.Values.{ConfigValue}
 use Rattle.sums.proofs.Members.{here, there, which, no_member}
-use Rattle.suites.proofs.ListMembers.{from_filter}
+use Rattle.suites.proofs.ListMembers.{from_filter, from_filter_map}
 use Rattle.suites.specs.Items.{Admitted, FileWith}
 use Rattle.suites.specs.Pool.{AreAgreed, files_of}
 use Rattle.suites.specs.Shelves.{AreSound}
@@ -28,7 +28,6 @@ use Rattle.history.specs.Histories as histories
 use Rattle.history.specs.Judging.{AreJudged}
 use Rattle.history.proofs.Contents.{AreMadeOf}
 use Rattle.history.proofs.ContentsWhole.{whole_of-arrived, whole_of-bodies, whole_of-brought}
-use Rattle.history.proofs.ItemPrintsFiles.{from_filter_map}
 use Rattle.history.proofs.Judged.{due_faithful}
 use Rattle.history.proofs.Kept.{stands_kept}
 use Rattle.history.proofs.Known.{ItemHas, ItemsHave, archive_has, faithful_knows, has_empty, known, with_empty}
@@ -86,7 +85,7 @@ due_after-due opening steps moment c at =
     let arrivals = counting opening steps moment in
     let whole = from_filter (is_complete arrivals) c (waiting_after opening steps moment) at in
     let fresh = from_filter (λ c. not (was_judged opening steps c)) c (candidates arrivals) (in_order_member (filter (λ c. not (was_judged opening steps c)) (candidates arrivals)) c whole.0) in
-    let came = from_filter_map candidate_of arrivals c fresh.0 in
+    let came = from_filter_map candidate_of c arrivals fresh.0 in
     record { read = candidate_read came.0 c came.2; complete = whole.1 }
 
 -- these arrivals are among those

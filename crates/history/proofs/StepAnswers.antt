@@ -13,14 +13,14 @@ use mathlib.Core.Path.{fun_ext}
 use Rattle.records.proofs.RecordRead.{read_more_changes}
 use Rattle.rules.specs.Sizes.{largest}
 use Rattle.rules.specs.Values.{ConfigValue}
-use Rattle.keep.specs.Book.{Book, Candidate, at_moment, ended, has_arrival, latest, missing, span, text_at, unjudged, waiting_list, waiting_of, with_delivery}
-use Rattle.keep.proofs.Lacks.{lacks_count}
-use Rattle.keep.specs.Keeping.{HasBodies, IsDeliverable, MayAnswer, NoCollision}
-use Rattle.keep.specs.declared.arrival.Arrival.{Arrival}
-use Rattle.keep.specs.declared.change.Judgement.{Judgement}
-use Rattle.keep.specs.declared.change.Waiting.{Waiting}
-use Rattle.keep.specs.declared.fault.KeepFault.{KeepFault}
-use Rattle.keep.specs.declared.fault.KeepFault.TheVariants as keep_faults
+use Rattle.book.specs.Book.{Book, Candidate, at_moment, ended, has_arrival, latest, missing, span, text_at, unjudged, waiting_list, waiting_of, with_delivery}
+use Rattle.book.proofs.Lacks.{lacks_count}
+use Rattle.book.specs.Keeping.{HasBodies, IsDeliverable, MayAnswer, NoCollision}
+use Rattle.book.specs.declared.arrival.Arrival.{Arrival}
+use Rattle.book.specs.declared.change.Judgement.{Judgement}
+use Rattle.book.specs.declared.change.Waiting.{Waiting}
+use Rattle.book.specs.declared.fault.KeepFault.{KeepFault}
+use Rattle.book.specs.declared.fault.KeepFault.TheVariants as keep_faults
 use Rattle.history.specs.Answers.{IsAnswer, IsFaithful, IsKept, IsStep, answer, delivery_answer, found_at, is_refused, line_on_missing, line_on_waiting, report_line, waiting_line}
 use Rattle.history.specs.Archives.{Stands, book_of, book_from}
 use Rattle.history.specs.Deliveries.{IsKeepers, delivery_fault, fault_of_read, most_named, or_else, record_fault}

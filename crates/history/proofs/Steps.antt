@@ -3,8 +3,8 @@ use Rattle.std.specs.Prelude.{◌≡◌, ℕ, List, [], ◌∷◌, ◌++◌, Res
 use Rattle.std.specs.List.{flat_map, fold}
 use Rattle.std.proofs.Common.{append-nil, ap, ◌∙◌}
 use Rattle.std.proofs.lemmas.Grind.{fold-append, flat_map-append}
-use Rattle.keep.specs.Book.{Book, at_moment, span, with_delivery}
-use Rattle.keep.specs.declared.arrival.Arrival.{Arrival}
+use Rattle.book.specs.Book.{Book, at_moment, span, with_delivery}
+use Rattle.book.specs.declared.arrival.Arrival.{Arrival}
 use Rattle.history.specs.Before.{before_each, before_each-push}
 use Rattle.history.specs.Histories.{Call, Delivery, QueueRun, Copying, Lookup, WaitingList, Cleaning, Removing, Promoting, VerdictList, Reply, Turn, History, arrived, arrivals_after, followed}
 use Rattle.history.specs.Archives.{acted, acts_of, all_acts, archive, archive_of, book_from, book_of}

@@ -1,15 +1,15 @@
 -- The verdict on an upload that is handed over whole is the one by prints.
-use Rattle.std.proofs.Common.{◌≡◌, ℕ, Bool, true, false, not, ◌==◌, ◌&&◌, codes, is_some, List, [], ◌∷◌, ◌++◌, Option, Some, None, option_map, unwrap_or, refl, sym, ap, ap₂, ◌∙◌}
+use Rattle.std.proofs.Common.{◌≡◌, ℕ, Bool, false, not, ◌&&◌, codes, is_some, List, [], ◌∷◌, ◌++◌, Option, Some, None, option_map, unwrap_or, refl, sym, ap, ap₂, ◌∙◌}
 use Rattle.std.specs.Prelude.{Contains}
 use Rattle.std.specs.FinMap.{get}
 use Rattle.std.specs.List.{list_any}
 use Rattle.std.specs.Option.{option_map_or}
 use Rattle.std.specs.Str.{bytes_eq}
 use mathlib.Core.Path.{fun_ext}
-use Rattle.std.proofs.lemmas.Bool.Decides.{Decides-eqb}
 use Rattle.std.proofs.lemmas.Slice.Eq.{bytes_eq-Decides}
-use Rattle.keep.proofs.Arrivals.{any_same}
-use Rattle.keep.specs.Keeping.{NoCollision}
+use Rattle.book.proofs.Arrivals.{any_same}
+use Rattle.book.specs.Keeping.{NoCollision}
+use Rattle.book.proofs.Prints.{same_print-Decides}
 use Rattle.records.specs.Records.{dsc_in}
 use Rattle.records.specs.Values.{ChangesValue, DscValue}
 use Rattle.rules.specs.Judgement.{rule_rows}
@@ -25,6 +25,7 @@ use Rattle.suites.proofs.Prints.{same_print-equal}
 use Rattle.suites.specs.Shelves.{pool}
 use Rattle.suites.specs.Upload.{UploadValue, Part, dsc_parts, entry_named, has_suffix}
 use Rattle.suites.specs.Verdict.{by_print, has_bad_dsc, has_bad_listing, has_bad_sidecar, has_other_contents, is_missing_file, is_taken, lacks_source_file, match_ok, path_of, verdict_on, verdict_with}
+use Rattle.suites.proofs.ListTests.{same_tests}
 use Rattle.history.specs.Archives.{PlainArchive, WholeUpload, by_body, listed_body, pool_in, shown_by_print}
 use Rattle.history.proofs.ContentsListed.{HasItsBodies, entry_body}
 use Rattle.history.proofs.PoolPrints.{get-pool}
@@ -35,25 +36,7 @@ pub record AreKnown (bodies : List (List ℕ)) (a : PlainArchive) (w : WholeUplo
   pub pooled : (path body : List ℕ) → get (pool_in a) path ≡ Some body → Contains bodies body
   pub brought : (body : List ℕ) → Contains w.bodies body → Contains bodies body
 
--- ---- equal prints
-
-same_print-itself : (a : Print) → same_print a a ≡ true
-same_print-itself a =
-    let size : (a.size == a.size) ≡ true = (Decides-eqb a.size a.size).1 refl in
-    let md5 : bytes_eq a.md5 a.md5 ≡ true = (bytes_eq-Decides a.md5 a.md5).1 refl in
-    let sha1 : bytes_eq a.sha1 a.sha1 ≡ true = (bytes_eq-Decides a.sha1 a.sha1).1 refl in
-    let sha256 : bytes_eq a.sha256 a.sha256 ≡ true = (bytes_eq-Decides a.sha256 a.sha256).1 refl in
-    rw (size, md5, sha1, sha256) refl
-
-pub equal-same_print : (a b : Print) → a ≡ b → same_print a b ≡ true
-equal-same_print a b e = ap (same_print a) (sym e) ∙ same_print-itself a
-
 -- ---- tests
-
-same_test : (a b : Bool) → (a ≡ true → b ≡ true) → (b ≡ true → a ≡ true) → a ≡ b
-same_test true b f g = sym (f refl)
-same_test false true f g = g refl
-same_test false false f g = refl
 
 map_or-map : {X Y : Type 0} (f : X → Y) (test : Y → Bool) (o : Option X) → option_map_or test (option_map f o) false ≡ option_map_or (λ x. test (f x)) o false
 map_or-map f test None = refl
@@ -80,9 +63,9 @@ lacks-printed a w u =
 -- a body of the pool is the entry's if its print is
 same_body : (bodies : List (List ℕ)) (there body : List ℕ) (print : Print) → NoCollision bodies → Contains bodies there → Contains bodies body → print_of body ≡ print
     → same_print (print_of there) print ≡ bytes_eq there body
-same_body bodies there body print apart p q is = same_test _ _
+same_body bodies there body print apart p q is = same_tests _ _
     (λ h. (bytes_eq-Decides there body).1 (apart there body p q (same_print-equal (print_of there) print h ∙ sym is)))
-    (λ h. equal-same_print (print_of there) print (ap print_of ((bytes_eq-Decides there body).0 h) ∙ is))
+    (λ h. ((same_print-Decides (print_of there) print).1 (ap print_of ((bytes_eq-Decides there body).0 h) ∙ is)))
 
 taken_held : (bodies : List (List ℕ)) (a : PlainArchive) (w : WholeUpload) (e : Entry) → AreKnown bodies a w → HasItsBodies w → Contains w.upload.changes.entries e
     → (path : List ℕ) (held : Option (List ℕ)) → get (pool_in a) path ≡ held

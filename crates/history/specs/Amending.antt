@@ -2,10 +2,10 @@
 use Rattle.std.specs.Prelude.{◌≡◌, ℕ, List, [], map, take, length}
 use Rattle.suites.specs.Shelves.{ShelvesValue}
 use Rattle.suites.specs.Told.{AreTold}
-use Rattle.keep.specs.Book.{Book, amended, at_moment, due, judgements, shown_past}
-use Rattle.keep.specs.Keeping.{Apart, AreSteps, HasEachBody, sign_of, sign_on}
-use Rattle.keep.specs.declared.change.Change.{Change}
-use Rattle.keep.specs.declared.change.Step.{Step}
+use Rattle.book.specs.Book.{Book, amended, at_moment, due, judgements, shown_past}
+use Rattle.book.specs.Keeping.{Apart, AreSteps, HasEachBody, sign_of, sign_on}
+use Rattle.book.specs.declared.change.Change.{Change}
+use Rattle.book.specs.declared.change.Step.{Step}
 
 -- Each plan is made for what those before it leave. The judged uploads are the first of those that are due at the moment. If
 -- records describe all that was shown before, they describe all that is shown afterwards. The shelves are what is then shown.

@@ -8,12 +8,12 @@ use Rattle.rules.specs.Verdicts.{number_of}
 use Rattle.rules.specs.declared.verdict.Verdict.{Verdict}
 use Rattle.rules.specs.declared.verdict.Verdict.TheVariants as verdict
 use Rattle.suites.specs.Plan.{is_removed}
-use Rattle.texts.specs.Indices.{index_text}
-use Rattle.keep.specs.Book.{Book, Candidate, ended, has_arrival, missing, latest, span}
-use Rattle.keep.specs.Keeping.{NoCollision, HasBodies}
-use Rattle.keep.specs.declared.arrival.Arrival.{Arrival}
-use Rattle.keep.specs.declared.change.Judgement.{Judgement}
-use Rattle.keep.specs.declared.change.Waiting.{Waiting}
+use Rattle.indices.specs.Indices.{index_text}
+use Rattle.book.specs.Book.{Book, Candidate, ended, has_arrival, missing, latest, span}
+use Rattle.book.specs.Keeping.{NoCollision, HasBodies}
+use Rattle.book.specs.declared.arrival.Arrival.{Arrival}
+use Rattle.book.specs.declared.change.Judgement.{Judgement}
+use Rattle.book.specs.declared.change.Waiting.{Waiting}
 use Rattle.history.specs.Archives.{PlainArchive, archive, acted, acts_of, pool_in, shown_in, shown_by_print, suite_named, is_shown_of, copied, sources_in, Stands}
 use Rattle.history.specs.Deliveries.{IsOfDisk, delivery_fault}
 use Rattle.history.specs.Histories.{Call, Delivery, QueueRun, Copying, Lookup, WaitingList, Cleaning, Removing, Promoting, VerdictList, Reply, Stored, Lines, Count, Found, Copies, History, arrived, counting, waiting_after, bodies_of, calls_of, followed}

@@ -20,9 +20,9 @@ use Rattle.suites.specs.Upload.{UploadValue, items_of}
 use Rattle.suites.specs.Verdict.{Telling, verdict_with}
 use Rattle.suites.specs.declared.item.Item.{Item}
 use Rattle.suites.specs.declared.key.ShelfKey.{ShelfKey}
-use Rattle.keep.specs.Book.{Book, Candidate, body_for, upload_of}
-use Rattle.keep.specs.declared.arrival.Arrival.{Arrival}
-use Rattle.keep.specs.declared.change.Judgement.{Judgement}
+use Rattle.book.specs.Book.{Book, Candidate, body_for, upload_of}
+use Rattle.book.specs.declared.arrival.Arrival.{Arrival}
+use Rattle.book.specs.declared.change.Judgement.{Judgement}
 use Rattle.history.specs.Before.{before_each}
 use Rattle.history.specs.Histories.{Call, QueueRun, Copying, Removing, Promoting, Reply, Turn, History, arrived, counting, due_after}
 use Rattle.history.specs.declared.fault.Fault.{Fault}

@@ -1,11 +1,11 @@
 -- What another configuration makes of an archive: it goes on as a history that opens with the configured book.
 use Rattle.std.specs.Prelude.{◌≡◌, ◌⊎◌, true, ℕ, Option, Some, Result, Ok, Err}
 use Rattle.rules.specs.Values.{ConfigValue}
-use Rattle.keep.specs.Book.{Book}
-use Rattle.keep.specs.Configured.{configured, keeps_shown}
-use Rattle.keep.specs.Keeping as keeping
-use Rattle.keep.specs.declared.fault.KeepFault.{KeepFault}
-use Rattle.keep.specs.declared.keeper.Keeper.{Ghosts}
+use Rattle.book.specs.Book.{Book}
+use Rattle.book.specs.Configured.{configured, keeps_shown}
+use Rattle.book.specs.Keeping as keeping
+use Rattle.book.specs.declared.fault.KeepFault.{KeepFault}
+use Rattle.book.specs.declared.keeper.Keeper.{Ghosts}
 use Rattle.history.specs.Answers.{IsKept}
 use Rattle.history.specs.Archives.{book_of}
 use Rattle.history.specs.Histories.{History, opened_with}

@@ -1,26 +1,20 @@
 -- Which copies are refused, and the plan of one that is not.
-use Rattle.std.specs.Prelude.{◌≡◌, ℕ, Bool, true, false, nat_eq, nat_lt, ◌&&◌, if◌then◌else◌, List, bytes_eq, Option, Some, None}
+use Rattle.std.specs.Prelude.{◌≡◌, ℕ, Bool, true, false, nat_eq, nat_lt, if◌then◌else◌, List, Option, Some, None}
 use Rattle.std.specs.FinMap.{entries}
 use Rattle.std.specs.List.{list_any}
-use Rattle.keep.specs.Book.{Book, latest}
+use Rattle.book.specs.Book.{Book, latest}
 use Rattle.rules.specs.Values.{ConfigValue}
-use Rattle.suites.specs.Plan.{IsStep, after_copy}
+use Rattle.suites.specs.Plan.{IsStep, after_copy, is_of_source}
 use Rattle.suites.specs.Shelves.{AreSound, ShelvesValue}
-use Rattle.suites.specs.declared.item.Item.{Item}
-use Rattle.suites.specs.declared.key.ShelfKey.{ShelfKey}
 use Rattle.suites.specs.declared.plan.Plan.{Plan}
 use Rattle.history.specs.Archives.{suite_named}
 use Rattle.history.specs.Deliveries.{or_else}
 use Rattle.history.specs.declared.fault.Fault.{Fault}
 use Rattle.history.specs.declared.fault.Fault.TheVariants.{Moment, UnknownSuite, SameSuite, NothingToCopy}
 
--- the item is of the suite and of the source package
-unfoldable pub is_item_of : ℕ → List ℕ → ShelfKey × Item → Bool
-is_item_of suite source e = nat_eq e.0.suite suite && bytes_eq e.1.source source
-
 -- the suite shows an item of the source package
 unfoldable pub shows_source : ShelvesValue → ℕ → List ℕ → Bool
-shows_source shelves suite source = list_any (is_item_of suite source) (entries shelves)
+shows_source shelves suite source = list_any (is_of_source suite source) (entries shelves)
 
 -- why there is no copy between two suites: one is missing, or they are the same
 abbrev pub suites_fault : Option ℕ → Option ℕ → Option Fault

@@ -1,8 +1,8 @@
 -- Which deliveries are refused, whatever the archive holds.
 use Rattle.std.specs.Prelude.{ℕ, Bool, IsTrue, ⊤, not, ◌||◌, nat_lt, if◌then◌else◌, List, length, Option, Some, None, Result, Ok, Err}
-use Rattle.keep.specs.Book.{latest}
-use Rattle.keep.specs.declared.fault.KeepFault.{KeepFault}
-use Rattle.keep.specs.declared.fault.KeepFault.TheVariants as keep_faults
+use Rattle.book.specs.Book.{latest}
+use Rattle.book.specs.declared.fault.KeepFault.{KeepFault}
+use Rattle.book.specs.declared.fault.KeepFault.TheVariants as keep_faults
 use Rattle.records.specs.Records.{changes_within}
 use Rattle.records.specs.Values.{ChangesValue}
 use Rattle.records.specs.declared.fault.RecordFault.{RecordFault}

@@ -1,8 +1,8 @@
 -- Histories of calls and their outcomes: what has arrived, what of it counts, and which uploads are complete.
 use Rattle.std.specs.Prelude.{ℕ, Bool, false, ◌&&◌, ◌||◌, not, List, [], ◌∷◌, ◌++◌, map, filter, bytes_eq, Option, Result, Ok}
 use Rattle.std.specs.List.{list_any, flat_map, fold}
-use Rattle.keep.specs.Book.{Book, Candidate, candidates, current, in_order, is_complete, is_judged, span, with_arrival}
-use Rattle.keep.specs.declared.arrival.Arrival.{Arrival}
+use Rattle.book.specs.Book.{Book, Candidate, candidates, current, in_order, is_complete, is_judged, span, with_arrival}
+use Rattle.book.specs.declared.arrival.Arrival.{Arrival}
 use Rattle.history.specs.Before.{before_each}
 use Rattle.history.specs.declared.fault.Fault.{Fault}
 

@@ -6,8 +6,8 @@ use Rattle.suites.specs.Plan.{IsStep, after_upload}
 use Rattle.suites.specs.Shelves.{ShelvesValue}
 use Rattle.suites.specs.Upload.{UploadValue}
 use Rattle.suites.specs.Verdict.{verdict_on}
-use Rattle.keep.specs.declared.change.Judgement.{Judgement}
-use Rattle.keep.specs.declared.change.Step.{Step}
+use Rattle.book.specs.declared.change.Judgement.{Judgement}
+use Rattle.book.specs.declared.change.Step.{Step}
 
 -- the judgement of an upload on these shelves
 abbrev pub judgement_on : ConfigValue → ShelvesValue → UploadValue → Judgement

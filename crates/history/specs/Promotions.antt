@@ -2,14 +2,11 @@
 use Rattle.std.specs.Prelude.{◌≡◌, ◌⊎◌, ⊤, ℕ, Bool, true, nat_eq, nat_lt, if◌then◌else◌, List, [], ◌∷◌, map, filter, length, Option, Some, None, Result, Ok}
 use Rattle.std.specs.FinMap.{entries}
 use Rattle.std.specs.List.{fold}
-use Rattle.std.specs.declared.alloc.Global.{Global}
-use Rattle.std.specs.declared.vec.Vec.{Vec}
-use Rattle.keep.specs.Book.{latest}
-use Rattle.keep.specs.declared.change.Step.{Step}
+use Rattle.book.specs.Book.{latest}
+use Rattle.book.specs.declared.change.Step.{Step}
 use Rattle.rules.specs.Values.{ConfigValue}
 use Rattle.suites.specs.Plan.{IsStep, after_copy}
 use Rattle.suites.specs.Shelves.{ShelvesValue}
-use Rattle.suites.specs.declared.key.ShelfKey.{ShelfKey}
 use Rattle.history.specs.Answers.{answer, is_free_copy}
 use Rattle.history.specs.Archives.{each_once, suite_named}
 use Rattle.history.specs.Copies.{shows_source, suites_fault}
@@ -39,11 +36,6 @@ sources_on shelves from = map (λ e. e.1.source) (filter (λ e. nat_eq e.0.suite
 abbrev pub sources_from : ShelvesValue → ℕ → Option (List (List ℕ)) → List (List ℕ)
 sources_from shelves from (Some sources) = each_once sources
 sources_from shelves from None = each_once (sources_on shelves from)
-
--- the shelves that a group has; there are none if there is no group
-abbrev pub keys_in : Option (Vec ShelfKey Global) → List ShelfKey
-keys_in None = []
-keys_in (Some keys) = keys.items
 
 -- The step is that of a copy of the source package: its plan, and no judgement.
 pub record IsCopyStep (config : ConfigValue) (shelves : ShelvesValue) (from to : ℕ) (source : List ℕ) (step : Step) : Type 0 where

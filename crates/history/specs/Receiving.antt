@@ -1,9 +1,9 @@
 -- A delivery whose body a reader gives: what was read of it, and what becomes of it.
 use Rattle.std.specs.Prelude.{◌≡◌, ◌≤◌, ◌<◌, ◌%◌, ◌⊎◌, ◌++◌, [], ◌∷◌, ℕ, Bool, IsTrue, List, length, Option, Some, None, Result, Ok, Err}
 use Rattle.std.specs.Io.KnownBytes.{Consumes, IsAtEnd, Keeps}
-use Rattle.keep.specs.Book.{Book}
-use Rattle.keep.specs.Keeping.{IsDeliverable, IsLeftDelivered, TakesDelivery, TellsNew}
-use Rattle.keep.specs.declared.keeper.Keeper.{Ghosts}
+use Rattle.book.specs.Book.{Book}
+use Rattle.book.specs.Keeping.{IsDeliverable, IsLeftDelivered, TakesDelivery, TellsNew}
+use Rattle.book.specs.declared.keeper.Keeper.{Ghosts}
 use Rattle.history.specs.Answers.{IsFaithful, IsKept, answer}
 use Rattle.history.specs.Archives.{book_of}
 use Rattle.history.specs.Commands.{stored}

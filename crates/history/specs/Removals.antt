@@ -2,7 +2,7 @@
 use Rattle.std.specs.Prelude.{◌≡◌, ℕ, Bool, true, nat_lt, if◌then◌else◌, List, [], Option, Some, None}
 use Rattle.std.specs.FinMap.{entries}
 use Rattle.std.specs.List.{list_any}
-use Rattle.keep.specs.Book.{Book, latest}
+use Rattle.book.specs.Book.{Book, latest}
 use Rattle.suites.specs.Plan.{IsStep, after_removal, is_removed, removed}
 use Rattle.suites.specs.Shelves.{AreSound, ShelvesValue}
 use Rattle.suites.specs.declared.plan.Plan.{Plan}

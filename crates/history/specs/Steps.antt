@@ -2,9 +2,9 @@
 use Rattle.std.specs.Prelude.{◌≡◌, ◌⊎◌, ⊤, ℕ, List, [], ◌∷◌, map, Option, Some, Result, Ok, Err}
 use Rattle.std.specs.declared.alloc.Global.{Global}
 use Rattle.std.specs.declared.vec.Vec.{Vec}
-use Rattle.keep.specs.Book.{Book}
-use Rattle.keep.specs.Keeping as keeping
-use Rattle.keep.specs.declared.keeper.Keeper.{Ghosts}
+use Rattle.book.specs.Book.{Book}
+use Rattle.book.specs.Keeping as keeping
+use Rattle.book.specs.declared.keeper.Keeper.{Ghosts}
 use Rattle.history.specs.Answers.{IsFaithful, IsKept, IsRun, IsStep, answer}
 use Rattle.history.specs.Archives.{book_of}
 use Rattle.history.specs.Commands.{outcome_of}

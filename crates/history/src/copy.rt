@@ -2,12 +2,12 @@
 
 ghost use Rattle.std.specs.Prelude.{◌≡◌, ◌⊎◌, ◌∷◌, ◌<◌, [], false, Some, None, bytes_eq, IfOk, IfErr, OnOk, length};
 ghost use Rattle.history.specs.Archives.{suite_named};
-ghost use Rattle.suites.specs.Plan.{IsStep, applied};
+ghost use Rattle.suites.specs.Plan.{IsStep, applied, is_of_source};
 ghost use Rattle.suites.specs.Shelves.{ShelvesValue};
-ghost use Rattle.history.specs.Copies.{is_item_of, shows_source, suites_fault, AreSuites, IsCopy};
+ghost use Rattle.history.specs.Copies.{shows_source, suites_fault, AreSuites, IsCopy};
 
 use crate::fault::Fault;
-use keep::Step;
+use book::Step;
 use para::Listed;
 use rules::Config;
 use std::alloc::{AllocError, Global};
@@ -31,9 +31,9 @@ pub fn two_suites(config: &Config, from: &str, to: &str) -> Result<(usize, usize
 }
 
 /// Whether the item on the shelf belongs to the suite and to the source package.
-#[tactic(auto, unfolding(crate::specs::Copies::is_item_of))]
-fn is_item_of(suite: usize, source: &str, key: &ShelfKey, item: &Item) -> bool
-    ensures { result ≡ is_item_of suite source.now (key.now, item.now) }
+#[tactic(auto, unfolding(suites::specs::Plan::is_of_source))]
+fn is_of_source(suite: usize, source: &str, key: &ShelfKey, item: &Item) -> bool
+    ensures { result ≡ is_of_source suite source.now (key.now, item.now) }
 {
     if key.suite != suite {
         return false;
@@ -46,7 +46,7 @@ fn shows_source(shelves: &Shelves, suite: usize, source: &str) -> bool
     ensures { result ≡ shows_source shelves.now suite source.now }
 {
     for (key, item) in shelves.items() {
-        if is_item_of(suite, source, key, item) {
+        if is_of_source(suite, source, key, item) {
             return true;
         }
     }

@@ -3,7 +3,7 @@
 ghost use Rattle.std.specs.Prelude.{◌≡◌};
 ghost use Rattle.history.specs.declared.fault.Fault.TheVariants.{OutOfMemory};
 
-use keep::KeepFault;
+use book::KeepFault;
 use records::RecordFault;
 use std::alloc::{AllocError, AllocFailed};
 use std::error::Error;
@@ -69,19 +69,11 @@ impl fmt::Display for Fault {
     ghost output = { λ fault. Some (fault_text fault) };
 
     fn fmt<W: fmt::Write>(&self, f: &mut fmt::Formatter<W>) -> fmt::Result {
+        let number = self.number();
         match self {
-            Fault::OutOfMemory => write!(f, "Q0"),
-            Fault::BadName => write!(f, "Q1"),
-            Fault::TooLarge => write!(f, "Q2"),
-            Fault::Record(fault) => write!(f, "Q3 {fault}"),
-            Fault::Keeper(fault) => write!(f, "Q4 {fault}"),
-            Fault::Moment => write!(f, "Q5"),
-            Fault::UnknownSuite => write!(f, "Q6"),
-            Fault::SameSuite => write!(f, "Q7"),
-            Fault::NothingToCopy => write!(f, "Q8"),
-            Fault::Ended => write!(f, "Q9"),
-            Fault::ReaderFailed => write!(f, "Q10"),
-            Fault::NothingToRemove => write!(f, "Q11"),
+            Fault::Record(fault) => write!(f, "Q{number} {fault}"),
+            Fault::Keeper(fault) => write!(f, "Q{number} {fault}"),
+            _ => write!(f, "Q{number}"),
         }
     }
 }

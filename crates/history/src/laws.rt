@@ -1,8 +1,8 @@
 //! Laws of histories.
 
 ghost use Rattle.std.specs.Prelude.{◌≡◌, ◌⊎◌, ◌<◌, ◌≤◌, ℕ, List, [], ◌∷◌, ◌++◌, Option, Some, None, Result, Ok, length, true};
-ghost use Rattle.keep.specs.Book.{Book, HasItsFiles, latest};
-ghost use Rattle.keep.specs.Configured.{configured, keeps_shown};
+ghost use Rattle.book.specs.Book.{Book, HasItsFiles, latest};
+ghost use Rattle.book.specs.Configured.{configured, keeps_shown};
 ghost use Rattle.history.specs.Configuring.{IsLeftConfigured, LeavesConfigured, reopened};
 ghost use Rattle.rules.specs.Configuration.{ClaimApart};
 ghost use Rattle.history.specs.Archives.{archive, book_of, sources_in, Stands};
@@ -13,12 +13,12 @@ ghost use Rattle.history.specs.declared.fault.Fault.{Fault};
 ghost use Rattle.rules.specs.Values.{ConfigValue};
 ghost use Rattle.std.specs.FinMap.{values};
 ghost use Rattle.suites.specs.Pool.{AreAgreed, files_of};
-ghost use Rattle.keep.specs.Plain.{fresh_book};
+ghost use Rattle.book.specs.Book.{fresh_book};
 ghost use Rattle.history.specs.Answers.{IsFaithful, IsKept, IsOpening, IsRun, answer};
 ghost use Rattle.history.specs.Receiving.{LeavesReceived};
 ghost use Rattle.history.specs.Steps.{DoesAll, IsLeftAlong, LeavesCall, LeavesDelivery, LeavesRun, LeavesStep};
 
-use keep::Keeper;
+use book::Keeper;
 
 /// A history may open with the book of an archive in which nothing is yet, as the plain keeper makes it. That book is the one of its own
 /// plain archive, and stands for the history without calls.

@@ -1,10 +1,10 @@
 //! Lines on uploads: the verdict of one that was judged, and the number of missing files of one that waits.
 
 ghost use Rattle.std.specs.Prelude.{◌≡◌, IfOk, map, string_bytes};
-ghost use Rattle.keep.specs.Book.{judgements};
+ghost use Rattle.book.specs.Book.{judgements};
 ghost use Rattle.history.specs.Answers.{line_on_missing, line_on_waiting, report_line};
 
-use keep::{Judgement, Step, Waiting};
+use book::{Judgement, Step, Waiting};
 use rules::Verdict;
 use std::alloc::{AllocError, Global};
 

@@ -1,17 +1,18 @@
 //! Promotions: copies of several source packages, or of all that a suite shows, as steps of one change.
 
-ghost use Rattle.std.specs.Prelude.{◌≡◌, ◌<◌, ◌==◌, ◌++◌, ◌∷◌, [], ℕ, List, false, Some, None, IfOk, OnOk, bytes_eq, cond, if◌then◌else◌, length, map, nat_eq, not, string_bytes};
+ghost use Rattle.std.specs.Prelude.{◌≡◌, ◌<◌, ◌==◌, ◌++◌, ◌∷◌, [], ℕ, List, Some, None, IfOk, OnOk, bytes_eq, cond, if◌then◌else◌, length, map, nat_eq, not, string_bytes, false};
 ghost use Rattle.std.specs.BTreeMap.{get_by_text};
 ghost use Rattle.suites.specs.Plan.{after_copy, shelves_of};
 ghost use Rattle.suites.specs.Shelves.{AreSound};
 ghost use Rattle.suites.specs.Told.{AreTold};
+ghost use Rattle.book.specs.Groups.{group_in};
 ghost use Rattle.history.specs.Answers.{copy_line, line_on_copy};
 ghost use Rattle.history.specs.Archives.{each_once, with_name};
 ghost use Rattle.history.specs.Commands.{copy_of, names_given};
-ghost use Rattle.history.specs.Promotions.{AreCopied, IsCopyStep, after_copies, copies_on, keys_in, sources_from, sources_on};
+ghost use Rattle.history.specs.Promotions.{AreCopied, IsCopyStep, after_copies, copies_on, sources_from, sources_on};
 
 use crate::command::SourceCopy;
-use keep::Step;
+use book::{Step, add_to_group, group_of};
 use rules::Config;
 use std::alloc::{AllocError, Global};
 use std::collections::{BTreeMap, BTreeSet};
@@ -120,21 +121,6 @@ pub fn sources_of(
     }
 }
 
-/// Takes the shelves of a source package out of the groups.
-fn take_keys(
-    alloc: Global,
-    groups: &mut BTreeMap<String, Vec<ShelfKey>>,
-    source: &str,
-) -> Vec<ShelfKey>
-    ensures keys { result.items ≡ keys_in (get_by_text groups.old source.now) }
-    ensures others { (q : List ℕ) → bytes_eq source.now q ≡ false → get_by_text groups.new q ≡ get_by_text groups.old q }
-{
-    match groups.remove(source) {
-        Some(keys) => keys,
-        None => Vec::new(alloc),
-    }
-}
-
 /// Adds a shelf to those of a source package.
 fn add_key(
     alloc: Global,
@@ -142,13 +128,9 @@ fn add_key(
     source: &str,
     key: &ShelfKey,
 ) -> Result<(), AllocError>
-    ensures { OnOk result ((q : List ℕ) → keys_in (get_by_text groups.new q) ≡ keys_in (get_by_text groups.old q) ++ cond (bytes_eq source.now q) (key.now ∷ []) []) }
+    ensures { OnOk result ((q : List ℕ) → group_in (get_by_text groups.new q) ≡ group_in (get_by_text groups.old q) ++ cond (bytes_eq source.now q) (key.now ∷ []) []) }
 {
-    let mut keys = take_keys(alloc, groups, source);
-    keys.push(key.try_clone()?)?;
-    let owned = String::from_str(alloc, source)?;
-    groups.insert(owned, keys)?;
-    Ok(())
+    add_to_group(alloc, groups, source, key.try_clone()?)
 }
 
 /// Adds a shelf to those of a source package, if it passes.
@@ -159,7 +141,7 @@ fn add_key_if(
     source: &str,
     key: &ShelfKey,
 ) -> Result<(), AllocError>
-    ensures { OnOk result ((q : List ℕ) → keys_in (get_by_text groups.new q) ≡ cond passes (keys_in (get_by_text groups.old q) ++ cond (bytes_eq source.now q) (key.now ∷ []) []) (keys_in (get_by_text groups.old q))) }
+    ensures { OnOk result ((q : List ℕ) → group_in (get_by_text groups.new q) ≡ cond passes (group_in (get_by_text groups.old q) ++ cond (bytes_eq source.now q) (key.now ∷ []) []) (group_in (get_by_text groups.old q))) }
 {
     if passes {
         add_key(alloc, groups, source, key)?;
@@ -173,7 +155,7 @@ pub fn groups_of(
     shelves: &Shelves,
     suite: usize,
 ) -> Result<BTreeMap<String, Vec<ShelfKey>>, AllocError>
-    ensures { IfOk result (λ groups. (q : List ℕ) → keys_in (get_by_text groups q) ≡ shelves_of shelves.now suite q) }
+    ensures { IfOk result (λ groups. (q : List ℕ) → group_in (get_by_text groups q) ≡ shelves_of shelves.now suite q) }
 {
     let mut groups = BTreeMap::new(alloc);
     for (key, item) in shelves.items() {
@@ -181,16 +163,6 @@ pub fn groups_of(
         add_key_if(alloc, &mut groups, is_shown, item.source.as_str(), key)?;
     }
     Ok(groups)
-}
-
-/// The shelves of a source package.
-fn keys_of<'g>(groups: &'g BTreeMap<String, Vec<ShelfKey>>, source: &str) -> &'g [ShelfKey]
-    ensures { result.now ≡ keys_in (get_by_text groups.now source.now) }
-{
-    match groups.get(source) {
-        Some(keys) => keys.as_slice(),
-        None => &[],
-    }
 }
 
 /// Whether there is a shelf.
@@ -258,7 +230,7 @@ pub fn copied_steps(
     requires from { from < length config.now.suites }
     requires to { to < length config.now.suites }
     requires other { nat_eq from to ≡ false }
-    requires groups { (q : List ℕ) → keys_in (get_by_text groups.now q) ≡ shelves_of shelves.old from q }
+    requires groups { (q : List ℕ) → group_in (get_by_text groups.now q) ≡ shelves_of shelves.old from q }
     ensures steps { IfOk result (λ copied. AreCopied config.now from to shelves.old (map string_bytes sources.now) copied.made.items) }
     ensures copies { IfOk result (λ copied. map copy_of copied.copies.items ≡ copies_on config.now from to shelves.old (map string_bytes sources.now) copied.made.items) }
     ensures shelves { OnOk result (shelves.new ≡ after_copies config.now from to shelves.old (map string_bytes sources.now)) }
@@ -272,7 +244,7 @@ pub fn copied_steps(
     let mut copies = Vec::new(alloc);
     for source in sources {
         let name = source.as_str();
-        let keys = keys_of(groups, name);
+        let keys = group_of(groups, name);
         let is_shown = is_any(keys);
         let step = copy_step(alloc, config, shelves, from, to, name, keys)?;
         let items = items_of(is_shown, &step);

@@ -3,12 +3,11 @@
 ghost use Rattle.std.specs.Prelude.{◌≡◌, ◌⊎◌, false, Some, IfOk, IfErr};
 ghost use Rattle.history.specs.Archives.{suite_named};
 ghost use Rattle.history.specs.Removals.{shows_package, suite_fault, IsRemoval};
-ghost use Rattle.suites.specs.Plan.{is_removed};
 
 use crate::fault::Fault;
 use rules::Config;
 use std::alloc::Global;
-use suites::{Item, Plan, ShelfKey, Shelves, plan_remove};
+use suites::{Plan, Shelves, is_removed, plan_remove};
 
 /// The position of a suite, by its codename. It is refused if there is no such suite.
 pub fn suite_position(config: &Config, codename: &str) -> Result<usize, Fault>
@@ -21,24 +20,12 @@ pub fn suite_position(config: &Config, codename: &str) -> Result<usize, Fault>
     Ok(place)
 }
 
-/// Whether the item on the shelf belongs to the suite and to the package.
-#[tactic(auto, unfolding(suites::specs::Plan::is_removed))]
-fn is_of_package(suite: usize, name: &str, key: &ShelfKey, item: &Item) -> bool
-    ensures { result ≡ is_removed suite name.now (key.now, item.now) }
-{
-    let _ = item;
-    if key.suite != suite {
-        return false;
-    }
-    key.package.as_str() == name
-}
-
 /// Whether a suite shows an item of the package.
 fn shows_package(shelves: &Shelves, suite: usize, name: &str) -> bool
     ensures { result ≡ shows_package shelves.now suite name.now }
 {
     for (key, item) in shelves.items() {
-        if is_of_package(suite, name, key, item) {
+        if is_removed(suite, name, key, item) {
             return true;
         }
     }

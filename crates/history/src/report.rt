@@ -4,7 +4,7 @@ ghost use Rattle.std.specs.Prelude.{◌≡◌, IfOk, map, string_bytes};
 ghost use Rattle.history.specs.Answers.{report_line, line_on_waiting};
 
 use crate::lines::{report_line, waiting_line};
-use keep::{Judgement, Waiting};
+use book::{Judgement, Waiting};
 use std::alloc::{AllocError, Global};
 
 /// A line for each upload that waits.

@@ -6,8 +6,8 @@ use Rattle.sqlite.specs.Effect.{Database}
 use Rattle.rules.specs.Configuration.{ClaimApart}
 use Rattle.rules.specs.Values.{ConfigValue}
 use Rattle.rules.proofs.Apart.{claim_apart}
-use Rattle.keep.specs.Book.{Book, HasItsFiles}
-use Rattle.keep.specs.Configured.{configured, keeps_shown}
+use Rattle.book.specs.Book.{Book, HasItsFiles}
+use Rattle.book.specs.Configured.{configured, keeps_shown}
 use Rattle.tables_meaning.specs.Archives.{KeepsFinished}
 use Rattle.tables_meaning.proofs.BookFiles.{finished_files}
 use Rattle.history.proofs.ConfiguredLemmas.{configured_files}

@@ -4,9 +4,9 @@ use Rattle.std.specs.declared.alloc.AllocError.{AllocError}
 use Rattle.std.specs.declared.alloc.Global.{Global}
 use Rattle.std.specs.declared.vec.Vec.{Vec}
 use Rattle.rules.specs.Values.{ConfigValue}
-use Rattle.keep.specs.Book.{Book, HasItsFiles}
-use Rattle.keep.specs.Keeping.{HasBodies, Lasts, MoreFaults, NoCollision}
-use Rattle.keep.specs.Plain.{fresh_book}
+use Rattle.book.specs.Book.{Book, HasItsFiles}
+use Rattle.book.specs.Keeping.{HasBodies, Lasts, MoreFaults, NoCollision}
+use Rattle.book.specs.Book.{fresh_book}
 use Rattle.tables_meaning.proofs.ReadCalls.{if_then}
 use Rattle.queue.specs.Answers.{IsFaithful, IsKept, IsRun}
 use Rattle.queue.specs.Archives.{Stands}
@@ -17,7 +17,7 @@ use Rattle.history.specs.declared.command.Command.{Command}
 use Rattle.history.specs.declared.command.Outcome.{Outcome}
 use Rattle.history.proofs.Kept.{stands_kept}
 use Rattle.history.proofs.Openings.{faithful_anew, fresh_stands}
-use Rattle.keep.proofs.Staying.{more_before}
+use Rattle.book.proofs.Staying.{more_before}
 use Rattle.history.proofs.Reopening.{opens_itself}
 use Rattle.promise.proofs.Refusals.{both_then}
 

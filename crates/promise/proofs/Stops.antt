@@ -6,7 +6,7 @@ use Rattle.std.proofs.lemmas.Option.{same_Some}
 use Rattle.sqlite.specs.Effect.{Database}
 use Rattle.sqlite.specs.Tree.{Trees}
 use Rattle.rules.specs.Values.{ConfigValue}
-use Rattle.keep.specs.Book.{Book}
+use Rattle.book.specs.Book.{Book}
 use Rattle.tables.specs.Rows.{HoldsRows, IsArchive, Tables, tables_of}
 use Rattle.tables.specs.Others.{IsArchiveSchema}
 use Rattle.tables_meaning.specs.Archives.{KeepsBook, KeepsFinished, KeepsLeft}

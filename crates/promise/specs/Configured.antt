@@ -7,10 +7,10 @@ use Rattle.sqlite.specs.Held.{Held, state}
 use Rattle.sqlite.specs.State.{HasCleanDisk}
 use Rattle.sqlite.specs.Store.{Ghosts}
 use Rattle.rules.specs.Values.{ConfigValue}
-use Rattle.keep.specs.Book.{Book}
-use Rattle.keep.specs.Configured.{configured, keeps_shown}
-use Rattle.keep.specs.declared.fault.KeepFault.{KeepFault}
-use Rattle.keep.specs.declared.fault.KeepFault.TheVariants.{Configuration as NotKept}
+use Rattle.book.specs.Book.{Book}
+use Rattle.book.specs.Configured.{configured, keeps_shown}
+use Rattle.book.specs.declared.fault.KeepFault.{KeepFault}
+use Rattle.book.specs.declared.fault.KeepFault.TheVariants.{Configuration as NotKept}
 use Rattle.tables_meaning.specs.Archives.{KeepsFinished}
 use Rattle.keep_tables.specs.Keepers.{config_in_use, connection_of, table_book}
 use Rattle.keep_tables.specs.declared.keeper.TableKeeper.{TableKeeper}

@@ -6,8 +6,8 @@ use Rattle.std.specs.declared.vec.Vec.{Vec}
 use Rattle.sqlite.specs.State.{HasCleanDisk}
 use Rattle.sqlite.specs.Store.{Ghosts}
 use Rattle.sqlite.specs.Tree.{Trees}
-use Rattle.keep.specs.Book.{Book}
-use Rattle.keep.specs.Keeping.{HasBodies, NoCollision}
+use Rattle.book.specs.Book.{Book}
+use Rattle.book.specs.Keeping.{HasBodies, NoCollision}
 use Rattle.tables_meaning.specs.Archives.{KeepsLeft}
 use Rattle.keep_tables.specs.Keepers.{connection_of, table_book}
 use Rattle.keep_tables.specs.declared.keeper.TableKeeper.{TableKeeper}

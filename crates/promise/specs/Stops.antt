@@ -1,7 +1,7 @@
 -- A call of a keeper that may stop.
 use Rattle.std.specs.Prelude.{ℕ, [], ◌∷◌}
 use Rattle.rules.specs.Values.{ConfigValue}
-use Rattle.keep.specs.declared.keeper.Keeper.{Ghosts}
+use Rattle.book.specs.declared.keeper.Keeper.{Ghosts}
 use Rattle.queue.specs.Answers.{IsFaithful, IsKept}
 use Rattle.queue.specs.Configuring.{LeavesConfigured}
 use Rattle.queue.specs.Histories.{Call, History}

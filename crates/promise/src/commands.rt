@@ -4,7 +4,7 @@ ghost use Rattle.std.specs.Prelude.{◌≡◌, IfOk, OnErr, map};
 ghost use Rattle.queue.specs.Commands.{AreOfKinds, call_of, outcome_of};
 ghost use Rattle.queue.specs.Steps.{DoesAll, IsOpenBehind, Lasts, LeavesRun};
 
-use keep::Keeper;
+use book::Keeper;
 use queue::{Archive, Command, Outcome};
 use std::alloc::{AllocError, Global};
 

@@ -1,8 +1,8 @@
 //! An archive that a database keeps, another configuration for it, and commands in order after that.
 
 ghost use Rattle.std.specs.Prelude.{◌≡◌, ◌⊎◌, ◌≤◌, true, IfOk, IfErr};
-ghost use Rattle.keep.specs.Keeping.{MayAnswer};
-ghost use Rattle.keep.specs.declared.fault.KeepFault.TheVariants.{Configuration as NotKept};
+ghost use Rattle.book.specs.Keeping.{MayAnswer};
+ghost use Rattle.book.specs.declared.fault.KeepFault.TheVariants.{Configuration as NotKept};
 ghost use Rattle.keep_tables.specs.Keepers.{config_in_use};
 ghost use Rattle.promise.specs.Configured.{GoesOnConfigured, HasIfTaken, IfMade};
 ghost use Rattle.queue.specs.Commands.{AreOfKinds};
@@ -11,7 +11,7 @@ ghost use Rattle.keep_tables.specs.Calls.{GivesBack, RefusesBusy, RefusesNoArchi
 ghost use Rattle.keep_tables.specs.KeeperCalls.{IsShutByFailure, KeepsItsBook};
 
 use crate::commands::make_commands;
-use keep::{KeepFault, Keeper, LATEST};
+use book::{KeepFault, Keeper, LATEST};
 use keep_tables::{InOrder, TableKeeper};
 use queue::{
     Archive, Command, Outcome, a_stop_in_a_configuration_leaves_a_book,

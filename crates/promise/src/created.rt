@@ -2,7 +2,7 @@
 
 ghost use Rattle.std.specs.Prelude.{◌≡◌, ◌≤◌, IfOk, OnErr};
 ghost use Rattle.sqlite.specs.State.{HasCleanDisk};
-ghost use Rattle.keep.specs.Plain.{fresh_book};
+ghost use Rattle.book.specs.Book.{fresh_book};
 ghost use Rattle.keep_tables.specs.Keepers.{connection_of, table_book};
 ghost use Rattle.promise.specs.Lists.{IsCutAlong, RunsFrom};
 ghost use Rattle.queue.specs.Commands.{AreOfKinds};
@@ -11,7 +11,7 @@ ghost use Rattle.keep_tables.specs.Calls.{GivesBack, RefusesOnlyTaken, RefusesTa
 ghost use Rattle.keep_tables.specs.KeeperCalls.{IsShutByFailure, KeepsItsBook};
 
 use crate::commands::make_commands;
-use keep::{KeepFault, Keeper, LATEST};
+use book::{KeepFault, Keeper, LATEST};
 use keep_tables::TableKeeper;
 use queue::{Archive, Command, Outcome, a_stop_leaves_a_part_of_a_list};
 use rules::Config;

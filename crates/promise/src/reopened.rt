@@ -3,7 +3,7 @@
 ghost use Rattle.std.specs.Prelude.{◌≡◌, IfOk, OnErr};
 ghost use Rattle.sqlite.specs.Held.{state};
 ghost use Rattle.sqlite.specs.State.{HasCleanDisk};
-ghost use Rattle.keep.specs.Book.{Book};
+ghost use Rattle.book.specs.Book.{Book};
 ghost use Rattle.tables_meaning.specs.Archives.{KeepsFinished};
 ghost use Rattle.keep_tables.specs.Keepers.{config_in_use, connection_of, table_book};
 ghost use Rattle.promise.specs.Lists.{GoesOn};
@@ -13,7 +13,7 @@ ghost use Rattle.keep_tables.specs.Calls.{GivesBack, RefusesBusy, RefusesNoArchi
 ghost use Rattle.keep_tables.specs.KeeperCalls.{IsShutByFailure, KeepsItsBook};
 
 use crate::commands::make_commands;
-use keep::{KeepFault, Keeper};
+use book::{KeepFault, Keeper};
 use keep_tables::{InOrder, TableKeeper};
 use queue::{Archive, Command, Outcome, a_stop_leaves_a_part_of_a_list};
 use sqlite::Connection;

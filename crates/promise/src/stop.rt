@@ -3,9 +3,9 @@
 ghost use Rattle.std.specs.Prelude.{◌≡◌, ◌⊎◌, true, ℕ, List, Contains};
 ghost use Rattle.sqlite.specs.Effect.{Database};
 ghost use Rattle.rules.specs.Values.{ConfigValue};
-ghost use Rattle.keep.specs.Book.{Book};
-ghost use Rattle.keep.specs.Configured.{configured, keeps_shown};
-ghost use Rattle.keep.specs.Keeping.{HasBodies, NoCollision};
+ghost use Rattle.book.specs.Book.{Book};
+ghost use Rattle.book.specs.Configured.{configured, keeps_shown};
+ghost use Rattle.book.specs.Keeping.{HasBodies, NoCollision};
 ghost use Rattle.tables.specs.Others.{IsArchiveSchema};
 ghost use Rattle.tables_meaning.specs.Archives.{KeepsFinished};
 ghost use Rattle.keep_tables.specs.Keepers.{connection_of};
@@ -16,7 +16,7 @@ ghost use Rattle.queue.specs.Archives.{book_of};
 ghost use Rattle.queue.specs.Histories.{Call, History, bodies_of, followed, opened_with};
 ghost use Rattle.promise.specs.Stops.{IsCalled, IsConfigured};
 
-use keep::Keeper;
+use book::Keeper;
 use keep_tables::TableKeeper;
 use queue::{a_stop_in_a_configuration_leaves_a_book, a_stop_leaves_a_book};
 use sqlite::Alter;

@@ -1,8 +1,8 @@
 -- A file of the pool that is read piece by piece.
 use Rattle.std.specs.Prelude.{◌≡◌, ◌*◌, ◌-◌, ◌&&◌, ℕ, Bool, List, Some, length, min, nat_eq}
 use Rattle.std.specs.Option.{option_map}
-use Rattle.keep.specs.Pieces.{PieceValue, piece_of_body}
-use Rattle.keep.specs.declared.keeper.Keeper.{Ghosts}
+use Rattle.book.specs.Pieces.{PieceValue, piece_of_body}
+use Rattle.book.specs.declared.keeper.Keeper.{Ghosts}
 
 -- The piece says that its file has this size, and is as long as the piece at this place of such a file.
 abbrev pub is_piece_at : (size number : ℕ) → PieceValue → Bool

@@ -15,14 +15,14 @@ ghost use Rattle.history.specs.Answers.{copy_line, is_free_copy, is_free_removal
 ghost use Rattle.history.specs.Commands.{stored, reported, counted, found, copies_of, lines_of, names_given, promoted};
 ghost use Rattle.history.specs.Copies.{copy_fault};
 ghost use Rattle.history.specs.Histories.{Delivery, QueueRun, Copying, Lookup, WaitingList, Cleaning, Removing, Promoting, VerdictList};
-ghost use Rattle.keep.specs.Book.{latest};
+ghost use Rattle.book.specs.Book.{latest};
 ghost use Rattle.history.specs.Deliveries.{delivery_fault, IsKeepers};
 ghost use Rattle.history.specs.Promotions.{IsPromotionFault, promotion_fault};
 ghost use Rattle.history.specs.Removals.{removal_fault};
-ghost use Rattle.keep.specs.Configured.{configured, keeps_shown};
-ghost use Rattle.keep.specs.Keeping.{MayAnswer};
-ghost use Rattle.keep.specs.Pieces.{piece_of_body, piece_value};
-ghost use Rattle.keep.specs.declared.fault.KeepFault.TheVariants.{Configuration};
+ghost use Rattle.book.specs.Configured.{configured, keeps_shown};
+ghost use Rattle.book.specs.Keeping.{MayAnswer};
+ghost use Rattle.book.specs.Pieces.{piece_of_body, piece_value};
+ghost use Rattle.book.specs.declared.fault.KeepFault.TheVariants.{Configuration};
 ghost use Rattle.history.specs.Configuring.{Configures, Endures, LeavesConfigured};
 ghost use Rattle.queue.specs.Pieces.{is_piece_at};
 ghost use Rattle.history.specs.Steps.{Does, IsServed, IsUndone, Lasts, Leaves, LeavesDelivery, LeavesStep, Reads};
@@ -30,14 +30,14 @@ ghost use Rattle.history.specs.Steps.{Does, IsServed, IsUndone, Lasts, Leaves, L
 use crate::delivery::check_delivery;
 use crate::pieces::is_piece_at;
 use crate::run::judged_steps;
+use book::{Change, FilePiece, KeepFault, Keeper, LATEST, Step};
 use history::{
     Arrived, Copied, Fault, Promotion, Report, copied_steps, copy_lines, copy_plan, groups_of,
     only_step, removal_plan, report_lines, sources_of, suite_position, two_suites, verdict_lines,
     waiting_lines,
 };
-use keep::{Change, FilePiece, KeepFault, Keeper, LATEST, Step};
 use para::Listed;
-use renewing::{PrintedText, configured, renewed_texts};
+use renewing::{LastTexts, configured, renewed_texts};
 use rules::Config;
 use std::alloc::Global;
 use suites::Shelves;
@@ -46,8 +46,8 @@ use suites::Shelves;
 #[derive(Drop)]
 pub struct Archive<K: Keeper> {
     pub keeper: K,
-    /// The index texts that were printed last. The prints of the next ones go on from them.
-    printed: Vec<PrintedText>,
+    /// What is kept of the index texts that were made last, so that the next ones are made in less time.
+    last: LastTexts,
 }
 
 impl<K: Keeper> Archive<K> {
@@ -57,7 +57,7 @@ impl<K: Keeper> Archive<K> {
     {
         Archive {
             keeper,
-            printed: Vec::new(alloc),
+            last: LastTexts::new(alloc),
         }
     }
 
@@ -65,7 +65,7 @@ impl<K: Keeper> Archive<K> {
     pub fn into_keeper(self) -> K
         ensures { result ≡ self.keeper }
     {
-        let Archive { keeper, printed: _ } = self;
+        let Archive { keeper, last: _ } = self;
         keeper
     }
 
@@ -122,7 +122,7 @@ impl<K: Keeper> Archive<K> {
         let texts = renewed_texts(
             alloc,
             &mut self.keeper,
-            &mut self.printed,
+            &mut self.last,
             &shelves,
             steps.as_slice(),
             moment,
@@ -316,7 +316,7 @@ impl<K: Keeper> Archive<K> {
         let _ = self.keeper.config().text();
         let next = configured(alloc, &mut self.keeper, config, moment)?;
         self.keeper.configure(alloc, next)?;
-        self.printed = Vec::new(alloc);
+        self.last = LastTexts::new(alloc);
         Ok(())
     }
 

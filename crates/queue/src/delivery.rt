@@ -3,8 +3,8 @@
 ghost use Rattle.std.specs.Prelude.{◌≡◌, ◌⊎◌, ◌≤◌, Some, None, MatchResult, OnOk};
 ghost use Rattle.history.specs.Deliveries.{delivery_fault, most_named as most_under, record_fault};
 
+use book::LATEST;
 use history::Fault;
-use keep::LATEST;
 use records::Changes;
 use rules::Config;
 use std::alloc::Global;

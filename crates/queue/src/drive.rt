@@ -12,8 +12,8 @@ ghost use Rattle.history.specs.Histories.{History};
 ghost use Rattle.history.specs.Steps.{Does, IsOpenBehind, IsServed, Lasts, LeavesCall, LeavesRun};
 
 use crate::archive::Archive;
+use book::Keeper;
 use history::{Command, Outcome};
-use keep::Keeper;
 use std::alloc::{AllocError, Global};
 
 impl<K: Keeper> Archive<K> {

@@ -1,10 +1,10 @@
 //! The pieces of a file of the pool.
 
 ghost use Rattle.std.specs.Prelude.{◌≡◌, ◌*◌};
-ghost use Rattle.keep.specs.Pieces.{piece_value};
+ghost use Rattle.book.specs.Pieces.{piece_value};
 ghost use Rattle.queue.specs.Pieces.{is_piece_at};
 
-use keep::{FilePiece, PIECE_SIZE};
+use book::{FilePiece, PIECE_SIZE};
 
 /// Whether a piece says that its file has this size, in bytes, and is as long as the piece at this place, from 0, of such a file.
 pub fn is_piece_at(piece: &FilePiece, size: u64, number: u32) -> bool

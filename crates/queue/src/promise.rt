@@ -1,15 +1,17 @@
 //! The promise from the first call on, over a keeper in memory.
 
 ghost use Rattle.std.specs.Prelude.{◌≡◌, ◌≤◌, ⊤, false, IfOk, map};
-ghost use Rattle.keep.specs.Keeping.{NoCollision};
-ghost use Rattle.keep.specs.Plain.{fresh_book, plain_book};
+ghost use Rattle.book.specs.Keeping.{NoCollision};
+ghost use Rattle.book.specs.Book.{fresh_book};
+ghost use Rattle.keep.specs.Plain.{plain_book};
 ghost use Rattle.history.specs.Answers.{IsRun};
 ghost use Rattle.history.specs.Commands.{AreOfKinds, call_of, outcome_of};
 ghost use Rattle.history.specs.Histories.{bodies_of, opened_with};
 
 use crate::archive::Archive;
+use book::LATEST;
 use history::{Command, Outcome};
-use keep::{LATEST, PlainKeeper};
+use keep::PlainKeeper;
 use rules::Config;
 use std::alloc::{AllocError, Global};
 

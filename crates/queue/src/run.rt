@@ -6,7 +6,7 @@ ghost use Rattle.suites.specs.Plan.{after_upload};
 ghost use Rattle.suites.specs.Shelves.{AreSound};
 ghost use Rattle.suites.specs.Told.{AreTold};
 
-use keep::{Judgement, Step};
+use book::{Judgement, Step};
 use para::Text;
 use rules::Config;
 use std::alloc::{AllocError, Global};

@@ -3,13 +3,13 @@
 ghost use Rattle.std.specs.Prelude.{◌≡◌, ◌≤◌, ◌++◌, [], List, ℕ, Some, min, length, IfOk, IfErr, OnOk, OnErr};
 ghost use Rattle.std.specs.Io.KnownBytes.{Consumes};
 ghost use Rattle.std.specs.Option.{option_map};
-ghost use Rattle.keep.specs.Book.{latest};
+ghost use Rattle.book.specs.Book.{latest};
 ghost use Rattle.history.specs.Receiving.{Arrives, Gave, HasRead, LeavesArrived, MayBeKept, MayTake};
 ghost use Rattle.history.specs.Steps.{Lasts, Stays};
 
 use crate::reading::{collect, fill};
+use book::{Keeper, PIECE_SIZE};
 use history::Fault;
-use keep::{Keeper, PIECE_SIZE};
 use std::alloc::Global;
 use std::io::Read;
 

@@ -1,7 +1,9 @@
 use Rattle.std.proofs.Common.{refl, sym, ◌∙◌}
 use Rattle.std.specs.Map.Iter.{deref_pair}
-use Rattle.history.specs.Copies.{is_item_of, shows_source}
-use Rattle.history.proofs.CopyShown.{none_more, none_shown, shown_more, some_shown}
+use Rattle.suites.specs.Plan.{is_of_source}
+use Rattle.indices.proofs.Listing.{shown_more}
+use Rattle.history.specs.Copies.{shows_source}
+use Rattle.history.proofs.CopyShown.{none_more, none_shown, some_shown}
 use Rattle.history.proofs.copy.shows_source.Goals as goal
 
 pub loop-key-init : goal.loop-key-init
@@ -12,16 +14,16 @@ loop-key-init c = record {
 
 pub loop-key-preserved : goal.loop-key-preserved
 loop-key-preserved c = record {
-  none = none_more deref_pair (is_item_of c.args.suite c.args.source.now) c.loop-key.yielded (c.in-Some.key, c.in-Some.item) c.loop-key.invariant.none (sym c.is_item_of.ensures ∙ c.if-is_item_of.false);
-  rest = shown_more deref_pair (is_item_of c.args.suite c.args.source.now) c.loop-key.yielded (c.in-Some.key, c.in-Some.item) _ _ _ c.in-Some.ensures.steps c.loop-key.invariant.rest;
+  none = none_more deref_pair (is_of_source c.args.suite c.args.source.now) c.loop-key.yielded (c.in-Some.key, c.in-Some.item) c.loop-key.invariant.none (sym c.is_of_source.ensures ∙ c.if-is_of_source.false);
+  rest = shown_more deref_pair c.loop-key.yielded (c.in-Some.key, c.in-Some.item) _ _ _ c.in-Some.ensures.steps c.loop-key.invariant.rest;
 }
 
-pub returns-then-is_item_of : goal.returns-then-is_item_of
+pub returns-then-is_of_source : goal.returns-then-is_of_source
 unfolding shows_source
-returns-then-is_item_of c =
-    sym (some_shown deref_pair (is_item_of c.args.suite c.args.source.now) c.loop-key.yielded (c.in-Some.key, c.in-Some.item) _ _ _ c.in-Some.ensures.steps
-    c.loop-key.invariant.rest (sym c.is_item_of.ensures ∙ c.if-is_item_of.true))
+returns-then-is_of_source c =
+    sym (some_shown deref_pair (is_of_source c.args.suite c.args.source.now) c.loop-key.yielded (c.in-Some.key, c.in-Some.item) _ _ _ c.in-Some.ensures.steps
+    c.loop-key.invariant.rest (sym c.is_of_source.ensures ∙ c.if-is_of_source.true))
 
 pub returns : goal.returns
 unfolding shows_source
-returns c = sym (none_shown deref_pair (is_item_of c.args.suite c.args.source.now) c.loop-key.yielded c.loop-key.key-iterator _ c.in-None.ensures.steps.0 c.loop-key.invariant.rest c.loop-key.invariant.none)
+returns c = sym (none_shown deref_pair (is_of_source c.args.suite c.args.source.now) c.loop-key.yielded c.loop-key.key-iterator _ c.in-None.ensures.steps.0 c.loop-key.invariant.rest c.loop-key.invariant.none)

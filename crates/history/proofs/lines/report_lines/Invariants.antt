@@ -1,6 +1,6 @@
 use Rattle.std.proofs.Common.{◌≡◌, ◌++◌, map, drop}
 use Rattle.std.specs.String.{string_bytes}
-use Rattle.keep.specs.Book.{judgements}
+use Rattle.book.specs.Book.{judgements}
 use Rattle.history.specs.Answers.{report_line}
 use Rattle.history.proofs.lines.report_lines.Given as goal
 

@@ -16,7 +16,7 @@ use Rattle.history.proofs.promotion.copied_steps.Goals as goal
 
 pub copy_step-requires-clause-keys : goal.copy_step-requires-clause-keys
 copy_step-requires-clause-keys c =
-    c.keys_of-keys.ensures ∙ c.requires.groups c.as_str-name.result.now ∙ sym (c.loop-source.invariant.same c.as_str-name.result.now)
+    c.group_of-keys.ensures ∙ c.requires.groups c.as_str-name.result.now ∙ sym (c.loop-source.invariant.same c.as_str-name.result.now)
 
 pub loop-source-preserved : goal.loop-source-preserved
 loop-source-preserved c =
@@ -43,8 +43,8 @@ loop-source-preserved c =
     fold-append (λ (m : ShelvesValue) (n : List ℕ). after_copy config m from to n) before ss (s ∷ []) in
     let after : after_copy config c.loop-source.shelves from to c.as_str-name.result.now ≡ after_copies config from to before (map string_bytes (take (i + 1) c.args.sources.now)) =
     (λ k. after_copy config (is_now k) from to (named k)) ∙ sym pushed ∙ ap (after_copies config from to before) (sym more) in
-    let keys_are : c.keys_of-keys.result.now ≡ shelves_of c.loop-source.shelves from c.as_str-name.result.now =
-    c.keys_of-keys.ensures ∙ c.requires.groups c.as_str-name.result.now ∙ sym (c.loop-source.invariant.same c.as_str-name.result.now) in
+    let keys_are : c.group_of-keys.result.now ≡ shelves_of c.loop-source.shelves from c.as_str-name.result.now =
+    c.group_of-keys.ensures ∙ c.requires.groups c.as_str-name.result.now ∙ sym (c.loop-source.invariant.same c.as_str-name.result.now) in
     let shown : c.is_any-is_shown.result ≡ shows_source now from s =
     c.is_any-is_shown.ensures ∙ ap (λ (keys : List ShelfKey). not (length keys == 0)) keys_are ∙ shown_by_shelves c.loop-source.shelves from c.as_str-name.result.now
     ∙ (λ k. shows_source (is_now k) from (named k)) in

@@ -1,8 +1,9 @@
 use Rattle.std.proofs.Common.{refl, sym, ◌∙◌}
 use Rattle.std.specs.Map.Iter.{deref_pair}
 use Rattle.suites.specs.Plan.{is_removed}
+use Rattle.indices.proofs.Listing.{shown_more}
 use Rattle.history.specs.Removals.{shows_package}
-use Rattle.history.proofs.CopyShown.{none_more, none_shown, shown_more, some_shown}
+use Rattle.history.proofs.CopyShown.{none_more, none_shown, some_shown}
 use Rattle.history.proofs.removal.shows_package.Goals as goal
 
 pub loop-key-init : goal.loop-key-init
@@ -13,15 +14,15 @@ loop-key-init c = record {
 
 pub loop-key-preserved : goal.loop-key-preserved
 loop-key-preserved c = record {
-  none = none_more deref_pair (is_removed c.args.suite c.args.name.now) c.loop-key.yielded (c.in-Some.key, c.in-Some.item) c.loop-key.invariant.none (sym c.is_of_package.ensures ∙ c.if-is_of_package.false);
-  rest = shown_more deref_pair (is_removed c.args.suite c.args.name.now) c.loop-key.yielded (c.in-Some.key, c.in-Some.item) _ _ _ c.in-Some.ensures.steps c.loop-key.invariant.rest;
+  none = none_more deref_pair (is_removed c.args.suite c.args.name.now) c.loop-key.yielded (c.in-Some.key, c.in-Some.item) c.loop-key.invariant.none (sym c.is_removed.ensures ∙ c.if-is_removed.false);
+  rest = shown_more deref_pair c.loop-key.yielded (c.in-Some.key, c.in-Some.item) _ _ _ c.in-Some.ensures.steps c.loop-key.invariant.rest;
 }
 
-pub returns-then-is_of_package : goal.returns-then-is_of_package
+pub returns-then-is_removed : goal.returns-then-is_removed
 unfolding shows_package
-returns-then-is_of_package c =
+returns-then-is_removed c =
     sym (some_shown deref_pair (is_removed c.args.suite c.args.name.now) c.loop-key.yielded (c.in-Some.key, c.in-Some.item) _ _ _ c.in-Some.ensures.steps
-    c.loop-key.invariant.rest (sym c.is_of_package.ensures ∙ c.if-is_of_package.true))
+    c.loop-key.invariant.rest (sym c.is_removed.ensures ∙ c.if-is_removed.true))
 
 pub returns : goal.returns
 unfolding shows_package

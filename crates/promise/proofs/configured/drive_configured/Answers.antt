@@ -1,8 +1,8 @@
 use Rattle.std.proofs.Common.{◌≡◌, true, IfOk, IsTrue, map, refl, sym, ap, subst, ◌∙◌}
 use Rattle.sqlite.specs.Held.{state}
 use Rattle.sqlite.specs.State.{HasCleanDisk}
-use Rattle.keep.specs.Book.{Book, HasItsFiles}
-use Rattle.keep.specs.Configured.{configured, keeps_shown}
+use Rattle.book.specs.Book.{Book, HasItsFiles}
+use Rattle.book.specs.Configured.{configured, keeps_shown}
 use Rattle.tables_meaning.specs.Archives.{KeepsFinished}
 use Rattle.tables_meaning.specs.Kept.{book_in}
 use Rattle.tables_meaning.proofs.BookFiles.{finished_files}

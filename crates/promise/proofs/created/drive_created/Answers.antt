@@ -8,7 +8,7 @@ use Rattle.keep_tables.proofs.KeptBook.{keeps_book}
 use Rattle.queue.specs.Commands.{call_of, outcome_of}
 use Rattle.queue.specs.Histories.{opened_with}
 use Rattle.history.proofs.Openings.{faithful_anew}
-use Rattle.keep.specs.Plain.{fresh_book}
+use Rattle.book.specs.Book.{fresh_book}
 use Rattle.tables_meaning.proofs.ReadCalls.{if_then}
 use Rattle.promise.proofs.Courses.{clean_made, config_made, once_made, open_or_failed, ready_made}
 use Rattle.promise.proofs.Refusals.{err_then}

@@ -1,5 +1,5 @@
 use Rattle.std.proofs.Common.{◌≡◌, true}
-use Rattle.keep.specs.Configured.{configured, keeps_shown}
+use Rattle.book.specs.Configured.{configured, keeps_shown}
 use Rattle.queue.specs.Archives.{book_of}
 use Rattle.promise.proofs.Stops.{OneOrThen, is_left, not_none, one_or_then}
 use Rattle.promise.proofs.stop.a_stop_in_a_configuration_goes_on.Goals as goal

@@ -1,7 +1,8 @@
 use Rattle.std.proofs.Common.{◌≡◌, map, ap, ◌∙◌}
 use Rattle.std.specs.Prelude.{⊤}
-use Rattle.keep.specs.Book.{Book}
-use Rattle.keep.specs.Plain.{fresh_book, plain_book}
+use Rattle.book.specs.Book.{Book}
+use Rattle.book.specs.Book.{fresh_book}
+use Rattle.keep.specs.Plain.{plain_book}
 use Rattle.history.specs.Commands.{call_of}
 use Rattle.history.specs.Histories.{opened_with}
 use Rattle.history.proofs.Kept.{stands_kept}

@@ -3,7 +3,7 @@ use Rattle.std.specs.Option.{option_map}
 use Rattle.std.proofs.lemmas.Result.{err_from_is_err_and}
 use Rattle.std.proofs.KnownBytes.{Consumes-trans}
 use Rattle.history.specs.Receiving.{HasRead}
-use Rattle.keep.proofs.Staying.{stays_on}
+use Rattle.book.proofs.Staying.{stays_on}
 use Rattle.queue.proofs.Stored.{refused_behind, room_for, room_kept, sizes_more, whole_past}
 use Rattle.queue.proofs.storing.store_pieces.Goals as goal
 

@@ -1,5 +1,5 @@
 use Rattle.std.proofs.Common.{◌≡◌, Some, inl, inr, sym, ap, ◌∙◌}
-use Rattle.keep.specs.Book.{Book, shown_past}
+use Rattle.book.specs.Book.{Book, shown_past}
 use Rattle.history.proofs.Amended.{once_amended, sound_change}
 use Rattle.queue.proofs.archive.Archive.amend.Goals as goal
 

@@ -1,6 +1,6 @@
 use Rattle.std.proofs.Common.{◌≤◌, inl, inr}
 use Rattle.std.proofs.lemmas.Result.{err_from_is_err_and}
-use Rattle.keep.specs.Book.{latest}
+use Rattle.book.specs.Book.{latest}
 use Rattle.history.specs.Histories.{Cleaning}
 use Rattle.history.specs.declared.fault.Fault.TheVariants.{Moment}
 use Rattle.history.proofs.Kept.{same_by, untouched}

@@ -4,8 +4,8 @@ use Rattle.rules.specs.Configuration.{ClaimApart}
 use Rattle.rules.specs.Values.{ConfigValue}
 use Rattle.rules.proofs.Apart.{claim_apart}
 use Rattle.suites.specs.Pool.{AreAgreed, files_of}
-use Rattle.keep.specs.Book.{Book}
-use Rattle.keep.specs.Configured.{configured, keeps_shown}
+use Rattle.book.specs.Book.{Book}
+use Rattle.book.specs.Configured.{configured, keeps_shown}
 use Rattle.history.specs.Archives.{book_of}
 use Rattle.history.proofs.ConfiguredLemmas.{config_of, configured_stands, made_book}
 use Rattle.queue.proofs.archive.Archive.configure.Goals as goal

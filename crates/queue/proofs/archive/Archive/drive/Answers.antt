@@ -1,6 +1,6 @@
 use Rattle.std.proofs.Common.{◌≡◌, ◌+◌, ◌<◌, List, [], ◌∷◌, ◌++◌, map, take, take_all, length, sym, ap, subst, ◌∙◌, arith}
 use Rattle.std.proofs.lemmas.List.{take_more, map-append}
-use Rattle.keep.proofs.ReadLemmas.{lasts_itself, lasts_more}
+use Rattle.book.proofs.ReadLemmas.{lasts_itself, lasts_more}
 use Rattle.history.proofs.Runs.{does_append, does_none, does_one, leaves_append, leaves_none, leaves_one, served_last}
 use Rattle.history.specs.Commands.{call_of, outcome_of, kind_of_command, kind_of_outcome}
 use Rattle.history.specs.Histories.{Call}

@@ -2,10 +2,10 @@ use Rattle.std.proofs.Common.{ap, ◌∙◌}
 use Rattle.std.specs.Prelude.{⊤}
 use Rattle.std.specs.Option.{option_or}
 use Rattle.std.proofs.lemmas.Result.{err_from_is_err_and}
-use Rattle.keep.specs.Book.{text_at}
+use Rattle.book.specs.Book.{text_at}
 use Rattle.history.specs.Histories.{Lookup}
 use Rattle.history.proofs.Kept.{same_by, same_past}
-use Rattle.keep.proofs.ReadLemmas.{reads_more}
+use Rattle.book.proofs.ReadLemmas.{reads_more}
 use Rattle.history.proofs.StepAnswers.{found_step, free_lookup, keeper_step, keepers_own}
 use Rattle.queue.proofs.archive.Archive.fetch.Goals as goal
 

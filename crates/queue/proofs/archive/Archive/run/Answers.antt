@@ -2,13 +2,13 @@ use Rattle.std.proofs.Common.{◌≡◌, ◌≤◌, ℕ, ◌==◌, true, List, [
 use Rattle.std.specs.Prelude.{map, string_bytes}
 use Rattle.std.proofs.lemmas.Bool.Decides.{nat_tests}
 use Rattle.std.proofs.lemmas.Result.{err_from_is_err_and}
-use Rattle.keep.specs.Book.{Book, judgements, latest}
+use Rattle.book.specs.Book.{Book, judgements, latest}
 use Rattle.history.specs.Answers.{report_line}
 use Rattle.history.specs.Histories.{QueueRun}
 use Rattle.history.specs.declared.fault.Fault.TheVariants.{Moment}
 use Rattle.history.proofs.Amended.{left_past}
 use Rattle.history.proofs.Kept.{same_by, same_past, untouched}
-use Rattle.keep.proofs.ReadLemmas.{reads_more}
+use Rattle.book.proofs.ReadLemmas.{reads_more}
 use Rattle.history.proofs.StepAnswers.{keeper_step, keepers_own, memory_own, memory_step, refused_step}
 use Rattle.history.proofs.RunAnswers.{free_run, idle_step, late_run, planned_run, ran_left, ran_step}
 use Rattle.queue.proofs.archive.Archive.run.Goals as goal

@@ -1,12 +1,12 @@
 use Rattle.std.proofs.Common.{◌≤◌, inl, inr, ap, ◌∙◌}
 use Rattle.std.specs.Prelude.{map}
 use Rattle.std.proofs.lemmas.Result.{err_from_is_err_and}
-use Rattle.keep.specs.Book.{latest}
+use Rattle.book.specs.Book.{latest}
 use Rattle.history.specs.Answers.{line_on_waiting}
 use Rattle.history.specs.Histories.{WaitingList}
 use Rattle.history.specs.declared.fault.Fault.TheVariants.{Moment}
 use Rattle.history.proofs.Kept.{same_by, untouched}
-use Rattle.keep.proofs.ReadLemmas.{reads_none}
+use Rattle.book.proofs.ReadLemmas.{reads_none}
 use Rattle.history.proofs.StepAnswers.{free_waiting, keeper_step, keepers_own, late_waiting, memory_own, memory_step, refused_step, waiting_step}
 use Rattle.queue.proofs.archive.Archive.waiting.Goals as goal
 
