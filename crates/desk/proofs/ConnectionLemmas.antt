@@ -3,20 +3,20 @@ use Rattle.std.proofs.Common.{◌≡◌, ◌≤◌, ◌+◌, ℕ, List, [], ◌�
 use Rattle.std.proofs.lemmas.Grind.{flat_map-append}
 use Rattle.std.proofs.lemmas.List.Elements.{All-append, All-cons, All-contains, All-nil, All-weaker}
 use Rattle.std.specs.Prelude.{All, Contains, length}
-use Rattle.keep.specs.Book.{Book, HasItsFiles}
-use Rattle.keep.specs.Keeping.{HasBodies, NoCollision}
-use Rattle.keep.specs.declared.keeper.Keeper.{Ghosts}
+use Rattle.book.specs.Book.{Book, HasItsFiles}
+use Rattle.book.specs.Keeping.{HasBodies, NoCollision}
+use Rattle.book.specs.declared.keeper.Keeper.{Ghosts}
 use Rattle.queue.specs.Answers.{IsFaithful, IsKept, IsRun}
 use Rattle.queue.specs.Archives.{Stands, book_of}
 use Rattle.queue.specs.Histories.{Call, Reply, History, followed, bodies_of, opened_with}
 use Rattle.queue.specs.Steps.{Does, Lasts, Reads}
 use Rattle.history.specs.declared.fault.Fault.{Fault}
 use Rattle.history.proofs.Kept.{stands_kept}
-use Rattle.keep.proofs.ReadLemmas.{lasts_itself, lasts_more, reads_none}
+use Rattle.book.proofs.ReadLemmas.{lasts_itself, lasts_more, reads_none}
 use Rattle.rules.specs.Values.{ConfigValue}
 use Rattle.history.proofs.Reopening.{opens_itself}
 use Rattle.history.proofs.Runs.{IsFaithful-front, IsFaithful-rest, IsRun-append}
-use Rattle.texts.proofs.Pairs.{pairs_append, pairs_none}
+use Rattle.indices.proofs.Pairs.{pairs_append, pairs_none}
 use Rattle.desk.specs.Calls.{call_wanted}
 use Rattle.desk.specs.Connections.{Visit, visit, visits, AllWent, AreServed, AreToldOf, HasServed, IsByLimit, IsLeftAmong, IsLeftIn, IsServed, IsToldOf, IsAt, IsNoLater, NeverFall, behind, calls_in, calls_of_course, outcomes_in, outcomes_of_course}
 use Rattle.desk.specs.Exchange.{Course, Silent, TurnedAway, TooLong, Short, Broken, Called, Told, Leaves, LeavesCourse}

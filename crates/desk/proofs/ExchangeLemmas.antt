@@ -6,8 +6,9 @@ use Rattle.std.proofs.KnownBytes.{Consumes-kept, Consumes-nil}
 use Rattle.std.proofs.lemmas.Bool.{ltb-false, ltb-true}
 use Rattle.std.proofs.lemmas.Bool.Decides.{nat_tests}
 use Rattle.std.proofs.lemmas.List.{length-replicate}
-use Rattle.keep.specs.Book.{Book}
-use Rattle.keep.specs.declared.keeper.Keeper.{Ghosts}
+use Rattle.std.proofs.lemmas.Option.{same_Some}
+use Rattle.book.specs.Book.{Book}
+use Rattle.book.specs.declared.keeper.Keeper.{Ghosts}
 use Rattle.queue.specs.Archives.{book_of}
 use Rattle.queue.specs.Commands.{is_new, stored}
 use Rattle.queue.specs.Histories.{Call, Delivery, History, Reply as Answered, Stored, followed}
@@ -90,11 +91,8 @@ too_large config name n moment e asked large is = named (is_file_name name) refl
     told : is_file_name name ≡ true → delivery_fault config name zeros moment ≡ Some fault.TooLarge
     told good = rw (good, over) refl
 
-    same : {X : Type 0} (a b : X) → Some a ≡ Some b → a ≡ b
-    same a b is = cc
-
     named : (b : Bool) → is_file_name name ≡ b → e ≡ fault.TooLarge
-    named true good = same e fault.TooLarge (sym (is zeros sized) ∙ told good)
+    named true good = same_Some e fault.TooLarge (sym (is zeros sized) ∙ told good)
     named false bad = let none : (false || false) ≡ true = rw (bad, under) at asked in absurd (cc)
 
 -- if the bytes of a reader are unknown after some bytes, they were unknown before them

@@ -6,13 +6,13 @@ use Rattle.std.specs.Io.KnownBytes.{Appends, Keeps}
 use Rattle.std.proofs.Math.Seq.{take-add}
 use Rattle.std.proofs.lemmas.List.{drop_at, length-replicate, length-take, nil_from_length, take_all, take_at}
 use Rattle.std.proofs.lemmas.Bool.Decides.{nat_tests}
-use Rattle.std.proofs.lemmas.Option.{none-some}
 use Rattle.std.proofs.KnownBytes.{Appends-trans, Appends-kept, Consumes-nil}
-use Rattle.keep.specs.Book.{Book, text_at}
-use Rattle.keep.specs.Pieces.{PieceValue, piece_of_body, piece_value}
-use Rattle.keep.specs.declared.keeper.Keeper.{Ghosts}
-use Rattle.keep.specs.declared.piece.FilePiece.{FilePiece}
-use Rattle.keep.proofs.ReadLemmas.{reads_more}
+use Rattle.book.specs.Book.{Book, text_at}
+use Rattle.book.specs.Pieces.{PieceValue, piece_of_body, piece_value}
+use Rattle.book.specs.declared.keeper.Keeper.{Ghosts}
+use Rattle.book.specs.declared.piece.FilePiece.{FilePiece}
+use Rattle.book.proofs.ReadLemmas.{reads_more}
+use Rattle.book.proofs.Pieces.{is_piece_of}
 use Rattle.history.proofs.Kept.{same_by}
 use Rattle.history.proofs.Runs.{leaves_read}
 use Rattle.history.proofs.StepAnswers.{found_step, free_lookup, refused_step}
@@ -44,18 +44,6 @@ use Rattle.desk.proofs.ExchangeLemmas.{handled_asked, without_body}
 use Rattle.desk.proofs.RequestLemmas.{read_behind}
 use Rattle.desk.proofs.TransferLemmas.{AppendsBeginning-all, AppendsBeginning-behind, AppendsBeginning-front}
 use Rattle.desk.specs.declared.routes.Rules.{Rules}
-
-some_inner : {A : Type 0} (x y : A) → Some x ≡ Some y → x ≡ y
-some_inner x y e = ap (λ o. unwrap_or o x) e
-
--- There is a file, and this is its piece.
-pub record IsPieceOf (file : Option (List ℕ)) (number : ℕ) (piece : PieceValue) : Type 0 where
-  pub some : file ≡ Some (unwrap_or file [])
-  pub is : piece ≡ piece_of_body number (unwrap_or file [])
-
-pub is_piece_of : (file : Option (List ℕ)) (number : ℕ) (piece : PieceValue) → option_map (piece_of_body number) file ≡ Some piece → IsPieceOf file number piece
-is_piece_of None number piece e = absurd (none-some piece e)
-is_piece_of (Some body) number piece e = record { some = refl; is = sym (some_inner (piece_of_body number body) piece e) }
 
 -- ---- a body for what was sent
 

@@ -12,5 +12,6 @@ pub mod OriginLemmas
 pub mod UniqueLemmas
 pub mod ReplyLemmas
 pub mod ExchangeLemmas
+pub mod FaultLemmas
 pub mod FileLemmas
 pub mod ConnectionLemmas

@@ -16,6 +16,7 @@ use Rattle.desk.specs.Questions.{Inquiry, to_why, to_why_of, to_list, to_list_of
 use Rattle.desk.specs.Want.{◌>>=◌, after_front, asked_at, at_question, before_end, before_end_of, beside_path, between, by_name, decoded, name_at, named_question, page_paths, question_fronts, question_or, question_paths, questioned}
 use Rattle.desk.proofs.RouteLemmas.{other_path}
 use Rattle.sums.proofs.Booleans.{both}
+use Rattle.sums.proofs.Agree.{bytes_same}
 use Rattle.telling.specs.Told.{Asking, explained, shown_of, page_of, suite_page}
 
 -- ---- what follows a front
@@ -55,13 +56,10 @@ small_joined (b ∷ part) rest h more =
 
 -- ---- what precedes an end
 
-same_bytes : (text : List ℕ) → bytes_eq text text ≡ true
-same_bytes text = (bytes_eq-Decides text text).1 refl
-
 before_joined : (part end : List ℕ) → before_end end (part ++ end) ≡ Some part
 before_joined part end =
     let size : length (part ++ end) - length end ≡ length part = omega (arith, length-append part end) in
-    rw (size, drop-append_seam part end, same_bytes end) (ap Some (take-append_seam part end))
+    rw (size, drop-append_seam part end, (bytes_same end end refl)) (ap Some (take-append_seam part end))
 
 -- a path has the end that it is said to have
 end_whole : (end path part : List ℕ) → before_end end path ≡ Some part → path ≡ part ++ end

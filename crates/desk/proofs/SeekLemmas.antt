@@ -5,6 +5,7 @@ use Rattle.std.proofs.Math.Seq.{drop-append_seam}
 use Rattle.std.proofs.lemmas.Option.{same_Some}
 use Rattle.std.proofs.lemmas.List.Folds.{list_all-append}
 use Rattle.std.specs.List.{ends_with, list_all, list_any}
+use Rattle.std.proofs.lemmas.Bool.{and_right}
 use Rattle.matchit.specs.Rows.{RowsOf}
 use Rattle.matchit.specs.Seek.{own, step, or_else, seek, first, param_step, has_slash, segment, longest_suffix, with_suffix, cuts}
 use Rattle.desk.specs.Paths.{is_byte, is_slash, IsPart}
@@ -367,13 +368,9 @@ module _ {K : Type 0} where
       no_end s true q r = let no : true ≡ false = sym (ends_slash s r) ∙ q in no
       no_end s false q r = refl
 
-      and_false : (u v : Bool) → v ≡ false → (u && v) ≡ false
-      and_false true v q = q
-      and_false false v q = refl
-
       no_cut : (s : List ℕ) → has_slash s ≡ false → cuts (segment s) (47 ∷ []) ≡ false
       no_cut s q =
-          ap (λ x. cuts x (47 ∷ [])) (segment_all s q) ∙ and_false (ltb 1 (length s)) (ends_with nat_eq s (47 ∷ [])) (no_end s (ends_with nat_eq s (47 ∷ [])) q refl)
+          ap (λ x. cuts x (47 ∷ [])) (segment_all s q) ∙ and_right (ltb 1 (length s)) (ends_with nat_eq s (47 ∷ [])) (no_end s (ends_with nat_eq s (47 ∷ [])) q refl)
 
   slash_first : (t : List ℕ) (k : K) (rest : List ℕ) → first ((256 ∷ 47 ∷ t, k) ∷ []) (47 ∷ rest) ≡ None
   slash_first t k rest =

@@ -1,9 +1,10 @@
 -- What the parameters of a route take of its path.
-use Rattle.std.proofs.Common.{◌≡◌, ℕ, ◌+◌, ◌-◌, ◌≤◌, ◌==◌, ◌&&◌, Bool, true, false, cond, leb, ltb, List, [], ◌∷◌, ◌++◌, length, take, drop, get_or, refl, sym, ap, ◌∙◌, arith, length-append, length-drop}
+use Rattle.std.proofs.Common.{◌≡◌, ℕ, ◌+◌, ◌-◌, ◌≤◌, ◌==◌, ◌&&◌, true, false, cond, leb, ltb, List, [], ◌∷◌, ◌++◌, length, take, drop, get_or, refl, sym, ap, ◌∙◌, arith, length-append, length-drop}
 use Rattle.std.proofs.lemmas.Bool.Decides.{nat_tests}
 use Rattle.std.proofs.lemmas.List.{take_rest, get_or-drop, drop-drop}
 use Rattle.std.proofs.Math.Seq.{drop-append_seam, take-append_seam, get_or-append_seam}
 use Rattle.std.specs.List.{list_all}
+use Rattle.std.proofs.lemmas.Bool.{and_right}
 use Rattle.matchit.specs.Params.{walk, wild_from, wild_stop, part_of, after_token}
 use Rattle.matchit.specs.Seek.{segment, has_slash}
 use Rattle.desk.specs.Paths.{is_byte}
@@ -12,10 +13,6 @@ use Rattle.sums.proofs.Booleans.{both}
 
 drop_sum : (m n : ℕ) (l : List ℕ) → drop (m + n) l ≡ drop n (drop m l)
 drop_sum m n l = sym (drop-drop n m l)
-
-and_false : (u v : Bool) → v ≡ false → (u && v) ≡ false
-and_false true v q = q
-and_false false v q = refl
 
 -- the bytes before a parameter are passed, one of the path for each
 wild_run : (w t : List ℕ) (x len token at : ℕ) → list_all is_byte w ≡ true → is_byte x ≡ false → at + length w ≤ len
@@ -65,7 +62,7 @@ walk_last pattern text path n token at x w part h e s =
     let last : ltb (token + length w + 1) (length pattern) ≡ false = grind (arith, nat_tests) in
     let stop : wild_stop pattern (token + length w) path (at + length w) ≡ length path =
     ap (λ v. cond v (at + length w + length (segment (drop (at + length w) path)) - length (segment (drop (token + length w + 1) pattern))) (length path))
-    (and_false (ltb (token + length w) (length pattern) && (get_or pattern (token + length w) 0 == 256)) (ltb (token + length w + 1) (length pattern)) last) in
+    (and_right (ltb (token + length w) (length pattern) && (get_or pattern (token + length w) 0 == 256)) (ltb (token + length w + 1) (length pattern)) last) in
     let fits : (leb (at + length w) (length path) && leb (length path) (length path)) ≡ true = grind (arith, nat_tests) in
     let took : part_of path (at + length w) (length path) ≡ part =
     ap (λ v. cond v (take (length path - (at + length w)) (drop (at + length w) path)) []) fits ∙ take_rest path (at + length w) ∙ moved path at w part s.bytes_left in

@@ -88,8 +88,8 @@ abbrev pub told_message : Asking → Result (Option (List ℕ)) TellFault → Me
 told_message question (Ok (Some text)) = record { status = 200; allow = None; content = content_of question; body = text }
 told_message question (Ok None) = refusal_message refusal.NotFound
 told_message question (Err (told.Keeper cause)) = refusal_message refusal.OutOfMemory
-told_message question (Err told.Moment) = text_message 422 (line (codes "Q5"))
-told_message question (Err told.UnknownSuite) = text_message 422 (line (codes "Q6"))
+told_message question (Err told.Moment) = fault_message fault.Moment
+told_message question (Err told.UnknownSuite) = fault_message fault.UnknownSuite
 
 -- The reply to a delivery that was refused. A body that ended early is a bad request, and if the reader failed there is no reply.
 abbrev pub reception_message : Fault → Option Message

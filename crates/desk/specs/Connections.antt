@@ -1,8 +1,8 @@
 -- Connections, served one after the other.
 use Rattle.std.specs.Prelude.{◌≡◌, ◌≤◌, ◌⊎◌, ℕ, Bool, List, [], ◌∷◌, length, All, Option, Some, None, Result, Ok, Err, ⊤}
 use Rattle.std.specs.List.{AllPairs, flat_map}
-use Rattle.keep.specs.Book.{Book}
-use Rattle.keep.specs.declared.keeper.Keeper.{Ghosts}
+use Rattle.book.specs.Book.{Book}
+use Rattle.book.specs.declared.keeper.Keeper.{Ghosts}
 use Rattle.queue.specs.Answers.{IsFaithful, IsKept, IsRun, answer}
 use Rattle.queue.specs.Archives.{book_of}
 use Rattle.queue.specs.Histories.{Call, Reply, History, followed}

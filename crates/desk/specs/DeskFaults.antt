@@ -1,5 +1,5 @@
 -- Why a connection was not answered in whole: each fault's number and its text.
-use Rattle.std.specs.Prelude.{ℕ, List, codes}
+use Rattle.std.specs.Prelude.{ℕ, List, ◌++◌, codes, decimal}
 use Rattle.desk.specs.declared.exchange.DeskFault.{DeskFault}
 use Rattle.desk.specs.declared.exchange.DeskFault.TheVariants.{ReaderFailed, WriterFailed, ArchiveFailed}
 
@@ -8,8 +8,6 @@ desk_fault_number ReaderFailed = 1
 desk_fault_number WriterFailed = 2
 desk_fault_number ArchiveFailed = 3
 
--- a fault's letter and its number
+-- a fault's text: the letter H and its number
 abbrev pub desk_fault_text : DeskFault → List ℕ
-desk_fault_text ReaderFailed = codes "H1"
-desk_fault_text WriterFailed = codes "H2"
-desk_fault_text ArchiveFailed = codes "H3"
+desk_fault_text fault = codes "H" ++ decimal (desk_fault_number fault)

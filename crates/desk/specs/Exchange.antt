@@ -1,8 +1,8 @@
 -- One connection: what its bytes ask for, what becomes of the archive, and what is written.
 use Rattle.std.specs.Prelude.{◌≡◌, ◌<◌, ◌≤◌, ◌⊎◌, ⊤, ℕ, List, [], ◌∷◌, cond, length, Option, Some, None, Result, Ok, Err}
 use Rattle.std.specs.Io.KnownBytes.{Appends, Consumes, IsAtEnd, Keeps}
-use Rattle.keep.specs.Book.{Book}
-use Rattle.keep.specs.declared.keeper.Keeper.{Ghosts}
+use Rattle.book.specs.Book.{Book}
+use Rattle.book.specs.declared.keeper.Keeper.{Ghosts}
 use Rattle.queue.specs.Answers.{IsFaithful, IsKept, answer}
 use Rattle.queue.specs.Archives.{book_of}
 use Rattle.queue.specs.Histories.{Call, Reply, History, followed}

@@ -1,8 +1,8 @@
 -- A large file of the pool, sent piece by piece.
 use Rattle.std.specs.Prelude.{◌≡◌, ◌<◌, ◌≤◌, ℕ, List, length, Option, Some, None, Result, Ok, Err, true}
 use Rattle.std.specs.Io.KnownBytes.{Appends}
-use Rattle.keep.specs.Pieces.{PieceValue}
-use Rattle.keep.specs.declared.keeper.Keeper.{Ghosts}
+use Rattle.book.specs.Pieces.{PieceValue}
+use Rattle.book.specs.declared.keeper.Keeper.{Ghosts}
 use Rattle.queue.specs.Histories.{Found}
 use Rattle.desk.specs.Calls.{done_message}
 use Rattle.desk.specs.Reply.{Message, message_text}

@@ -11,7 +11,6 @@ pub mod Calls
 pub mod Connections
 pub mod DeskFaults
 pub mod Exchange
-pub mod FaultText
 pub mod File
 pub mod Message
 pub mod Outgoing

@@ -1,7 +1,7 @@
 -- What a request is answered with: a reply that is at hand, or a large file of the pool.
 use Rattle.std.specs.Prelude.{◌≡◌, ℕ, List, [], Option, Some, None, string_bytes, true}
-use Rattle.keep.specs.Pieces.{piece_value}
-use Rattle.keep.specs.declared.keeper.Keeper.{Ghosts}
+use Rattle.book.specs.Pieces.{piece_value}
+use Rattle.book.specs.declared.keeper.Keeper.{Ghosts}
 use Rattle.queue.specs.Pieces.{HasFirst}
 use Rattle.queue.specs.Steps.{Reads}
 use Rattle.desk.specs.Exchange.{IsCalled, IsHandled}

@@ -8,7 +8,7 @@ ghost use Rattle.queue.specs.Steps.{Lasts};
 
 use crate::exchange::{DeskFault, Served};
 use crate::routes::Desk;
-use keep::Keeper;
+use book::Keeper;
 use queue::Archive;
 use std::alloc::Global;
 use std::io::{Read, Write};

@@ -17,15 +17,15 @@ ghost use Rattle.queue.specs.Steps.{Lasts, Reads};
 ghost use Rattle.telling.specs.Told.{bytes_of, question_of};
 
 use crate::content::Content;
-use crate::fault_text::{FaultText, record_text};
+use crate::fault_text::text_of;
 use crate::file::{LargeFile, is_all, is_large, send_file};
 use crate::head::{Ask, Refusal};
 use crate::reply::{Body, Reply, write_reply};
 use crate::request::{Request, read_request};
 use crate::routes::Desk;
 use crate::transfer::WriterFailed;
+use book::Keeper;
 use http::StatusCode;
-use keep::Keeper;
 use queue::{Archive, Arrived, Fault, Promotion, ReaderFailed, Report};
 use statuses::delivery_status;
 use std::alloc::Global;
@@ -76,11 +76,7 @@ impl fmt::Display for DeskFault {
     ghost output = { λ fault. Some (desk_fault_text fault) };
 
     fn fmt<W: fmt::Write>(&self, f: &mut fmt::Formatter<W>) -> fmt::Result {
-        match self {
-            DeskFault::ReaderFailed => write!(f, "H1"),
-            DeskFault::WriterFailed => write!(f, "H2"),
-            DeskFault::ArchiveFailed => write!(f, "H3"),
-        }
+        write!(f, "H{}", self.number())
     }
 }
 
@@ -371,18 +367,12 @@ fn reception_reply(fault: Fault) -> Result<Reply, ReaderFailed>
 fn fault_reply(fault: Fault) -> Reply
     ensures { message_of result ≡ fault_message fault }
 {
-    let text = match fault {
-        Fault::OutOfMemory | Fault::Keeper(_) => return Reply::to_refusal(Refusal::OutOfMemory),
-        Fault::TooLarge => return Reply::to_refusal(Refusal::PayloadTooLarge),
-        Fault::BadName => FaultText::whole("Q1"),
-        Fault::Record(fault) => record_text("Q3 ", fault),
-        Fault::Moment => FaultText::whole("Q5"),
-        Fault::UnknownSuite => FaultText::whole("Q6"),
-        Fault::SameSuite => FaultText::whole("Q7"),
-        Fault::NothingToCopy => FaultText::whole("Q8"),
-        Fault::Ended => FaultText::whole("Q9"),
-        Fault::ReaderFailed => FaultText::whole("Q10"),
-        Fault::NothingToRemove => FaultText::whole("Q11"),
-    };
-    Reply::new(StatusCode::UNPROCESSABLE_ENTITY, Body::Fault(text))
+    match fault {
+        Fault::OutOfMemory | Fault::Keeper(_) => Reply::to_refusal(Refusal::OutOfMemory),
+        Fault::TooLarge => Reply::to_refusal(Refusal::PayloadTooLarge),
+        fault => Reply::new(
+            StatusCode::UNPROCESSABLE_ENTITY,
+            Body::Fault(text_of(fault)),
+        ),
+    }
 }

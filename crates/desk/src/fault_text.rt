@@ -1,113 +1,76 @@
-//! The text of a fault, in parts that are in the program, so that it takes no memory.
+//! The text of a fault, which takes no memory.
 
-ghost use Rattle.std.specs.Prelude.{◌≡◌, ◌++◌};
-ghost use Rattle.desk.specs.FaultText.{line_part, text_of};
+ghost use Rattle.std.specs.Prelude.{◌≡◌, ◌+◌, ◌≤◌, ◌++◌, codes, length};
+ghost use Rattle.arrayvec.specs.ArrayString.{array_string_len};
 ghost use Rattle.para.specs.Fault.{fault_text as paragraph_fault_text};
+ghost use Rattle.queue.specs.Fault.{fault_text};
 ghost use Rattle.records.specs.Fault.{fault_text as record_fault_text};
-ghost use Rattle.sums.specs.Fault.{fault_text as list_fault_text};
-ghost use Rattle.vers.specs.Fault.{fault_text as version_fault_text};
 
+use arrayvec::ArrayString;
+use itoa::{Buffer, Integer};
 use para::ParaFault;
+use queue::Fault;
 use records::RecordFault;
-use sums::ListFault;
-use vers::VersionFault;
 
-/// The text of a fault: three parts, one after the other, and after them the number of a line if the fault has one.
-#[derive(Clone, Copy, Debug, PartialEq, Eq)]
-pub struct FaultText {
-    pub first: &'static str,
-    pub second: &'static str,
-    pub third: &'static str,
-    pub line: Option<usize>,
+/// The text of a fault. The longest ends with the number of a line, as `Q3 C1 P7:12` does.
+pub type FaultText = ArrayString<40>;
+
+/// The text of a fault of the archive.
+pub fn text_of(fault: Fault) -> FaultText
+    ensures { result.bytes ≡ fault_text fault }
+{
+    let mut text = ArrayString::new();
+    push_number(&mut text, "Q", fault.number());
+    match fault {
+        Fault::Record(fault) => push_record(&mut text, fault),
+        Fault::Keeper(fault) => push_number(&mut text, " K", fault.number()),
+        _ => {}
+    }
+    text
 }
 
-impl FaultText {
-    /// A text that is whole in the program.
-    pub fn whole(text: &'static str) -> FaultText
-        ensures { text_of result ≡ text.now }
-    {
-        FaultText {
-            first: text,
-            second: "",
-            third: "",
-            line: None,
+/// Appends a space and the fault of a record.
+fn push_record(text: &mut FaultText, fault: RecordFault)
+    requires { array_string_len text.old ≤ 4 }
+    ensures { text.new.bytes ≡ text.old.bytes ++ codes " " ++ record_fault_text fault }
+{
+    push_number(text, " C", fault.number());
+    match fault {
+        RecordFault::Paragraph(fault) => push_paragraph(text, fault),
+        RecordFault::Missing(name) => {
+            text.push_str(" ");
+            text.push_str(name.name());
         }
+        RecordFault::Version(fault) => push_number(text, " N", fault.number()),
+        RecordFault::Lists(fault) => push_number(text, " S", fault.number()),
+        _ => {}
     }
 }
 
-/// The text of a record's fault after these letters.
-pub fn record_text(first: &'static str, fault: RecordFault) -> FaultText
-    ensures { text_of result ≡ first.now ++ record_fault_text fault }
+/// Appends a space and the fault of a paragraph.
+fn push_paragraph(text: &mut FaultText, fault: ParaFault)
+    requires { array_string_len text.old ≤ 9 }
+    ensures { text.new.bytes ≡ text.old.bytes ++ codes " " ++ paragraph_fault_text fault }
 {
-    let (second, third, line) = match fault {
-        RecordFault::OutOfMemory => ("C0", "", None),
-        RecordFault::Paragraph(fault) => {
-            let (third, line) = paragraph_parts(fault);
-            ("C1 ", third, line)
-        }
-        RecordFault::Missing(name) => ("C2 ", name.name(), None),
-        RecordFault::NotOneLine => ("C3", "", None),
-        RecordFault::Format => ("C4", "", None),
-        RecordFault::Name => ("C5", "", None),
-        RecordFault::Version(fault) => ("C6 ", version_text(fault), None),
-        RecordFault::Architecture => ("C7", "", None),
-        RecordFault::Distribution => ("C8", "", None),
-        RecordFault::Lists(fault) => ("C9 ", list_text(fault), None),
-        RecordFault::OwnField => ("C10", "", None),
-    };
-    FaultText {
-        first,
-        second,
-        third,
-        line,
-    }
-}
-
-/// The text of a paragraph's fault without the number of its line, and that number.
-fn paragraph_parts(fault: ParaFault) -> (&'static str, Option<usize>)
-    ensures { result.0.now ++ line_part result.1 ≡ paragraph_fault_text fault }
-{
+    push_number(text, " P", fault.number());
     match fault {
-        ParaFault::OutOfMemory => ("P0", None),
-        ParaFault::NotUtf8 => ("P1", None),
-        ParaFault::RefusedByte(line) => ("P2:", Some(line)),
-        ParaFault::BadName(line) => ("P3:", Some(line)),
-        ParaFault::NoColon(line) => ("P4:", Some(line)),
-        ParaFault::NoField(line) => ("P5:", Some(line)),
-        ParaFault::BlankLine(line) => ("P6:", Some(line)),
-        ParaFault::FieldTwice(line) => ("P7:", Some(line)),
-        ParaFault::NoParagraph => ("P8", None),
-        ParaFault::SeveralParagraphs => ("P9", None),
-        ParaFault::TooLong => ("P10", None),
+        ParaFault::RefusedByte(line)
+        | ParaFault::BadName(line)
+        | ParaFault::NoColon(line)
+        | ParaFault::NoField(line)
+        | ParaFault::BlankLine(line)
+        | ParaFault::FieldTwice(line) => push_number(text, ":", line),
+        _ => {}
     }
 }
 
-fn version_text(fault: VersionFault) -> &'static str
-    ensures { result.now ≡ version_fault_text fault }
+/// Appends a number after what stands before it.
+fn push_number<I: Integer>(text: &mut FaultText, before: &str, number: I)
+    requires { array_string_len text.old + length before.now + I.MAX_STR_LEN ≤ 40 }
+    ensures bytes { text.new.bytes ≡ text.old.bytes ++ before.now ++ I.text number }
+    ensures len { array_string_len text.new ≤ array_string_len text.old + length before.now + I.MAX_STR_LEN }
 {
-    match fault {
-        VersionFault::OutOfMemory => "N0",
-        VersionFault::TooLong => "N1",
-        VersionFault::BadEpoch => "N2",
-        VersionFault::BadUpstream => "N3",
-        VersionFault::BadCharacter => "N4",
-        VersionFault::EmptyRevision => "N5",
-    }
-}
-
-fn list_text(fault: ListFault) -> &'static str
-    ensures { result.now ≡ list_fault_text fault }
-{
-    match fault {
-        ListFault::OutOfMemory => "S0",
-        ListFault::ListAbsent => "S1",
-        ListFault::TextOnFirstLine => "S2",
-        ListFault::BadWords => "S3",
-        ListFault::BadDigest => "S4",
-        ListFault::BadSize => "S5",
-        ListFault::BadName => "S6",
-        ListFault::NameTwice => "S7",
-        ListFault::ListsDisagree => "S8",
-        ListFault::BadCount => "S9",
-    }
+    let mut digits = Buffer::new();
+    text.push_str(before);
+    text.push_str(digits.format(number));
 }

@@ -6,15 +6,15 @@ ghost use Rattle.std.specs.Prelude.{◌≡◌, ◌*◌, ◌-◌, ◌&&◌, nat_e
 ghost use Rattle.std.specs.Option.{option_map};
 ghost use Rattle.desk.specs.File.{AreSent, IsFirst, IsSent};
 ghost use Rattle.desk.specs.declared.exchange.DeskFault.TheVariants.{ArchiveFailed};
-ghost use Rattle.keep.specs.Pieces.{piece_of_body, piece_value};
+ghost use Rattle.book.specs.Pieces.{piece_of_body, piece_value};
 ghost use Rattle.queue.specs.Pieces.{HasFirst};
 ghost use Rattle.queue.specs.Steps.{Reads};
 
 use crate::exchange::{DeskFault, Served};
 use crate::reply::{flush, write_file_head};
 use crate::transfer::write_whole;
+use book::{FilePiece, Keeper, PIECE_SIZE};
 use http::StatusCode;
-use keep::{FilePiece, Keeper, PIECE_SIZE};
 use queue::Archive;
 use std::alloc::Global;
 use std::io::Write;

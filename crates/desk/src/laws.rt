@@ -2,8 +2,8 @@
 
 ghost use Rattle.std.specs.Prelude.{◌≡◌, ◌≢◌, ℕ, List, [], ◌∷◌, ◌++◌, Option, Some, true, false, codes, length, Contains, Ok, Err};
 ghost use Rattle.std.specs.List.{list_all, list_any};
-ghost use Rattle.keep.specs.Book.{Book, HasItsFiles};
-ghost use Rattle.keep.specs.Keeping.{HasBodies, NoCollision};
+ghost use Rattle.book.specs.Book.{Book, HasItsFiles};
+ghost use Rattle.book.specs.Keeping.{HasBodies, NoCollision};
 ghost use Rattle.queue.specs.Answers.{IsFaithful, IsKept, IsRun, answer};
 ghost use Rattle.queue.specs.Archives.{book_of};
 ghost use Rattle.queue.specs.Histories.{History, bodies_of, followed, opened_with};
@@ -20,7 +20,7 @@ ghost use Rattle.desk.specs.declared.head.Refusal.TheVariants.{NotFound};
 ghost use Rattle.desk.specs.declared.routes.Rules.{Rules};
 ghost use Rattle.desk.specs.declared.routes.Route.TheVariants.{Clean, Copy, Deliver, Dists, Pool, Promote, Remove, Run, Verdicts, Waiting};
 
-use keep::Keeper;
+use book::Keeper;
 
 /// The bytes of a connection ask for one thing, and one part of them is used for it. Nothing is done: the law is the
 /// contract.

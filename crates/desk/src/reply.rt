@@ -1,14 +1,13 @@
 //! The bytes of a reply, written piece by piece, so that no piece takes memory.
 //!
-//! The texts of a reply are in the program or come from the archive, and a fault is written in parts. So a reply takes no memory, and a 422
-//! never turns into a 507.
-ghost use Rattle.std.specs.Prelude.{◌≡◌, ◌≤◌, ◌*◌, ◌^◌, ℕ, List, None, [], unwrap_or, length, string_bytes, OnOk, OnErr};
+//! The texts of a reply are in the program or come from the archive, and the text of a fault has a fixed room. So a reply takes no memory,
+//! and a 422 never turns into a 507.
+ghost use Rattle.std.specs.Prelude.{◌≡◌, ℕ, List, None, [], unwrap_or, length, string_bytes, OnOk, OnErr};
 ghost use Rattle.std.specs.List.{flat_map};
 ghost use Rattle.std.specs.Io.KnownBytes.{Appends, Keeps};
 ghost use Rattle.http.specs.StatusCode.{reason_phrase};
 ghost use Rattle.std.specs.Option.{option_map_or};
 ghost use Rattle.desk.specs.Answer.{refusal_message};
-ghost use Rattle.desk.specs.FaultText.{line_part, text_of};
 ghost use Rattle.desk.specs.File.{file_message};
 ghost use Rattle.desk.specs.Message.{message_of, body_text};
 ghost use Rattle.desk.specs.Parts.{parts_text};
@@ -241,7 +240,7 @@ fn body_length(reply: &Reply) -> u128
             digits.format(*number).len() as u128 + 1
         }
         Body::Lines(lines) => lines_length(lines.as_slice()),
-        Body::Fault(text) => fault_length(text) + 1,
+        Body::Fault(text) => text.len() as u128 + 1,
         Body::Bytes(bytes) => bytes.len() as u128,
     }
 }
@@ -256,28 +255,6 @@ fn lines_length(lines: &[String]) -> u128
     length
 }
 
-fn fault_length(text: &FaultText) -> u128
-    ensures value { result ≡ length (text_of text.now) }
-    ensures bound { result ≤ 4 * 2 ^ 64 }
-{
-    let mut digits = Buffer::new();
-    let line = line_digits(text.line, &mut digits);
-    text.first.len() as u128
-        + text.second.len() as u128
-        + text.third.len() as u128
-        + line.len() as u128
-}
-
-/// The digits of a line's number, or nothing if there is no number.
-fn line_digits(line: Option<usize>, digits: &mut Buffer) -> &str
-    ensures { result.now ≡ line_part line }
-{
-    match line {
-        Some(line) => digits.format(line),
-        None => "",
-    }
-}
-
 fn write_body<W: Write>(writer: &mut W, reply: &Reply) -> Result<(), WriterFailed>
     ensures ok { OnOk result (Appends (W.contents writer.old) (W.contents writer.new) (body_text reply.now.status reply.now.body)) }
     ensures err { OnErr result (AppendsBeginning (W.contents writer.old) (W.contents writer.new) (body_text reply.now.status reply.now.body)) }
@@ -290,7 +267,7 @@ fn write_body<W: Write>(writer: &mut W, reply: &Reply) -> Result<(), WriterFaile
             write_line(writer, digits.format(*number))
         }
         Body::Lines(lines) => write_lines(writer, lines.as_slice()),
-        Body::Fault(text) => write_fault(writer, text),
+        Body::Fault(text) => write_line(writer, text.as_str()),
         Body::Bytes(bytes) => write_whole(writer, bytes.as_slice()),
     }
 }
@@ -305,22 +282,6 @@ fn write_phrase<W: Write>(writer: &mut W, status: StatusCode) -> Result<(), Writ
         digits.format(status.as_u16()).as_bytes(),
         b" ".as_slice(),
         phrase_of(status).as_bytes(),
-        b"\n".as_slice(),
-    ];
-    write_pieces(writer, pieces.as_slice())
-}
-
-/// A fault's text, as a line.
-fn write_fault<W: Write>(writer: &mut W, text: &FaultText) -> Result<(), WriterFailed>
-    ensures ok { OnOk result (Appends (W.contents writer.old) (W.contents writer.new) (line (text_of text.now))) }
-    ensures err { OnErr result (AppendsBeginning (W.contents writer.old) (W.contents writer.new) (line (text_of text.now))) }
-{
-    let mut digits = Buffer::new();
-    let pieces = [
-        text.first.as_bytes(),
-        text.second.as_bytes(),
-        text.third.as_bytes(),
-        line_digits(text.line, &mut digits).as_bytes(),
         b"\n".as_slice(),
     ];
     write_pieces(writer, pieces.as_slice())

@@ -2,9 +2,9 @@
 use Rattle.std.proofs.Common.{◌≡◌, ℕ, ◌+◌, ◌*◌, List, map, codes, option_to_list, Option, Some, None, refl}
 use Rattle.std.specs.Option.{option_map}
 use Rattle.rules.specs.declared.suite.Suite.{Suite}
-use Rattle.texts.specs.Calendar.{date_text}
-use Rattle.texts.specs.Release.{valid_until}
-use Rattle.texts.specs.Stanzas.{line_field}
+use Rattle.indices.specs.Calendar.{date_text}
+use Rattle.indices.specs.Release.{valid_until}
+use Rattle.indices.specs.Stanzas.{line_field}
 use Rattle.figures.specs.Numbers.{date_at, end_at}
 
 by_days : (date : ℕ) (o : Option ℕ)

@@ -9,8 +9,8 @@ use Rattle.std.specs.declared.cmp.Ordering.TheVariants.{Less, Equal, Greater}
 use Rattle.std.proofs.lemmas.Bool.Decides.{same_from_decides, Decides-like}
 use Rattle.std.proofs.lemmas.Map.Text.{is_eq-slice_cmp}
 use Rattle.std.proofs.lemmas.Slice.Eq.{bytes_eq-Decides}
-use Rattle.keep.proofs.Prints.{same_print-Decides}
-use Rattle.keep.specs.declared.change.Waiting.{Waiting}
+use Rattle.book.proofs.Prints.{same_print-Decides}
+use Rattle.book.specs.declared.change.Waiting.{Waiting}
 use Rattle.sums.specs.Prints.{same_print}
 use Rattle.sums.specs.declared.print.Print.{Print}
 use Rattle.figures.specs.Keys.{HasPrints, HasSigns, is_sign_of, key_of, key_order, print_order, sign_order}

@@ -4,7 +4,7 @@ use Rattle.std.specs.List.{list_all}
 use Rattle.std.proofs.lemmas.Bool.{and_from, and_parts}
 use Rattle.std.proofs.lemmas.Bool.Decides.{Decides-eqb}
 use Rattle.records.specs.Names.{is_architecture_byte, is_architecture_name, is_plain_byte, is_plain_name}
-use Rattle.texts.proofs.Paths.{HoldsOfNames}
+use Rattle.indices.proofs.Paths.{HoldsOfNames}
 use Rattle.figures.specs.Printing.{needs_escape, stands_for_itself}
 
 module _ (test : ℕ → Bool) (backslash : test 92 ≡ false) (quote : test 34 ≡ false) (newline : test 10 ≡ false) where

@@ -1,8 +1,7 @@
 -- Steps of loops over suites, items and prints.
-use Rattle.std.proofs.Common.{◌≡◌, ℕ, ◌+◌, ◌<◌, ◌≤◌, ◌^◌, ◌-◌, Bool, true, false, cond, if◌then◌else◌, min, Bor, List, [], ◌∷◌, ◌++◌, map, filter, length, take, drop, get_or, refl, sym, ap, ◌∙◌, arith}
+use Rattle.std.proofs.Common.{◌≡◌, ℕ, ◌+◌, ◌<◌, ◌≤◌, ◌^◌, ◌-◌, Bool, true, false, cond, min, Bor, List, [], ◌∷◌, ◌++◌, map, length, take, drop, get_or, sym, ap, ◌∙◌, arith}
 use Rattle.std.specs.List.{enumerate_from, flat_map, list_any}
-use Rattle.std.proofs.lemmas.List.{append-nil, append_assoc, length-append, drop_more, map-append, take_more, take_all}
-use Rattle.std.proofs.lemmas.List.Elements.{filter-append}
+use Rattle.std.proofs.lemmas.List.{append-nil, append_assoc, drop_more, map-append, take_more, take_all}
 use Rattle.std.proofs.lemmas.List.FromFn.{get_or-enumerate_from, length-enumerate_from}
 use Rattle.std.proofs.lemmas.Grind.{flat_map-append}
 use Rattle.std.proofs.lemmas.Simd.{map-map}
@@ -41,26 +40,6 @@ module _ {X : Type 0} (xs : List X) (i : ℕ) (x : X) (within : i < length xs) (
 -- all positions are taken
 pub all_taken : {X : Type 0} (xs : List X) (i : ℕ) → length xs ≤ i → take i (enumerate_from 0 xs) ≡ enumerate_from 0 xs
 all_taken xs i past = take_all i (enumerate_from 0 xs) (rw (length-enumerate_from 0 xs) past)
-
--- ---- items that are counted
-
-abbrev counted : Bool → ℕ → ℕ
-counted counts n = if counts then n + 1 else n
-
-module _ {X : Type 0} (test : X → Bool) where
-  single : (x : X) (n : ℕ) (b : Bool) → test x ≡ b → counted b n ≡ n + length (filter test (x ∷ []))
-  single x n true e = rw e (omega arith)
-  single x n false e = rw e (omega arith)
-
-  -- what a loop over items has counted, after one more
-  pub counted_more : (xs : List X) (x : X) (n m : ℕ) → n ≡ length (filter test xs) → m ≡ counted (test x) n
-      → m ≡ length (filter test (xs ++ x ∷ []))
-  counted_more xs x n m so next =
-      next
-      ∙ single x n (test x) refl
-      ∙ ap (λ (k : ℕ). k + length (filter test (x ∷ []))) so
-      ∙ sym (length-append (filter test xs) (filter test (x ∷ [])))
-      ∙ ap length (sym (filter-append test xs (x ∷ [])))
 
 -- ---- prints, each once
 

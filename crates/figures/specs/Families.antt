@@ -2,14 +2,15 @@
 use Rattle.std.specs.Prelude.{ℕ, List, [], ◌∷◌, ◌++◌, map, length, codes, Option, Some, None, option_to_list}
 use Rattle.std.specs.Fmt.{decimal}
 use Rattle.std.specs.List.{enumerate_from, flat_map}
-use Rattle.keep.specs.Book.{Book, arrived_file, waiting_list}
-use Rattle.keep.specs.declared.arrived.ArrivedFile.{ArrivedFile}
-use Rattle.keep.specs.declared.change.Judgement.{Judgement}
-use Rattle.keep.specs.declared.change.Waiting.{Waiting}
+use Rattle.book.specs.Book.{Book, waiting_list, arrived_in}
+use Rattle.book.specs.declared.arrived.ArrivedFile.{ArrivedFile}
+use Rattle.book.specs.declared.change.Judgement.{Judgement}
+use Rattle.book.specs.declared.change.Waiting.{Waiting}
 use Rattle.rules.specs.Verdicts.{all_verdicts, number_of}
 use Rattle.rules.specs.declared.suite.Suite.{Suite}
 use Rattle.suites.specs.Shelves.{ShelvesValue}
-use Rattle.figures.specs.Numbers.{in_state, oldest, judged_as, item_count, date_at, end_at, kept_prints, bytes_of}
+use Rattle.indices.specs.Counting.{item_count}
+use Rattle.figures.specs.Numbers.{in_state, oldest, judged_as, date_at, end_at, kept_prints, bytes_of}
 use Rattle.figures.specs.declared.family.Figure.{Figure}
 use Rattle.figures.specs.declared.family.Figure.TheVariants as figure
 use Rattle.figures.specs.declared.family.Family.{Family}
@@ -106,7 +107,7 @@ verdict_sample judged number = labelled (decimal number) (judged_as judged numbe
 
 -- how many items a suite shows, by its position
 abbrev pub items_sample : ShelvesValue → ℕ × Suite → Sample
-items_sample shelves s = labelled s.1.codename (item_count shelves s.0)
+items_sample shelves s = labelled s.1.codename (item_count shelves s.0 None)
 
 -- the date of a suite, by its position
 abbrev pub changed_sample : List ℕ → ℕ × Suite → Sample
@@ -159,10 +160,6 @@ kept_families arrived shelves =
     ∷ family figure.Bodies (lone (length (kept_prints arrived shelves)))
     ∷ family figure.Bytes (lone (bytes_of (kept_prints arrived shelves)))
     ∷ []
-
--- what has arrived, without its bytes
-abbrev pub arrived_in : Book → List ArrivedFile
-arrived_in book = map arrived_file book.arrivals
 
 -- the figures of a book at a moment
 unfoldable pub families : ℕ → Book → List Family

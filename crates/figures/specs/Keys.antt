@@ -5,7 +5,7 @@ use Rattle.std.specs.Cmp.{IsTotalOrder, nat_cmp_total, on_total, then_total}
 use Rattle.std.specs.List.{list_any}
 use Rattle.std.specs.Ordering.{nat_cmp, ordering_then}
 use Rattle.std.specs.declared.cmp.Ordering.{Ordering}
-use Rattle.keep.specs.declared.change.Waiting.{Waiting}
+use Rattle.book.specs.declared.change.Waiting.{Waiting}
 use Rattle.suites.specs.KeyLemmas.{text_order_total}
 use Rattle.suites.specs.Keys.{text_order}
 use Rattle.sums.specs.Prints.{same_print}

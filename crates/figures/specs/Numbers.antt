@@ -1,17 +1,15 @@
 -- The numbers of a book at a moment: what waits, what was judged, what the suites show, and what is kept.
 use Rattle.std.specs.Prelude.{ℕ, ◌+◌, ◌*◌, ◌-◌, ◌^◌, min, nat_eq, Bool, not, ◌&&◌, bytes_eq, List, [], ◌∷◌, ◌++◌, map, filter, length, get_or, if◌then◌else◌, Option, option_map}
-use Rattle.std.specs.FinMap.{entries, values}
+use Rattle.std.specs.FinMap.{values}
 use Rattle.std.specs.List.{list_any, reduce}
-use Rattle.keep.specs.declared.arrived.ArrivedFile.{ArrivedFile}
-use Rattle.keep.specs.declared.change.Judgement.{Judgement}
-use Rattle.keep.specs.declared.change.Waiting.{Waiting}
+use Rattle.book.specs.declared.arrived.ArrivedFile.{ArrivedFile}
+use Rattle.book.specs.declared.change.Judgement.{Judgement}
+use Rattle.book.specs.declared.change.Waiting.{Waiting}
 use Rattle.para.specs.Bytes.{is_nil}
 use Rattle.rules.specs.Verdicts.{number_of}
 use Rattle.rules.specs.declared.suite.Suite.{Suite}
 use Rattle.suites.specs.Pool.{files_of}
 use Rattle.suites.specs.Shelves.{ShelvesValue}
-use Rattle.suites.specs.declared.item.Item.{Item}
-use Rattle.suites.specs.declared.key.ShelfKey.{ShelfKey}
 use Rattle.sums.specs.Prints.{same_print}
 use Rattle.sums.specs.declared.print.Print.{Print}
 use Rattle.figures.specs.declared.waiting.State.{State}
@@ -47,14 +45,6 @@ unfoldable pub judged_as : List Judgement → ℕ → ℕ
 judged_as judged number = length (filter (λ j. nat_eq (number_of j.verdict) number) judged)
 
 -- ---- suites
-
--- what stands on the shelf is shown by the suite at a position
-abbrev pub is_shown_by : ℕ → ShelfKey × Item → Bool
-is_shown_by suite entry = nat_eq entry.0.suite suite
-
--- how many items the suite at a position shows
-unfoldable pub item_count : ShelvesValue → ℕ → ℕ
-item_count shelves suite = length (filter (is_shown_by suite) (entries shelves))
 
 -- the date of the Release of the suite at a position
 abbrev pub date_at : List ℕ → ℕ → ℕ

@@ -6,7 +6,7 @@ ghost use Rattle.figures.specs.Families.{verdict_sample, verdicts_family};
 ghost use Rattle.figures.specs.Numbers.{judged_as};
 
 use crate::family::{Family, Figure, Sample, labelled};
-use keep::Judgement;
+use book::Judgement;
 use std::alloc::{AllocError, Global};
 
 /// How many verdicts there are, with that of an accepted upload.

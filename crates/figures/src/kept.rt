@@ -10,7 +10,7 @@ ghost use Rattle.figures.specs.Numbers.{bytes_of, each_once, kept_prints, shown_
 
 use crate::family::{Family, Figure, lone_family};
 use crate::key::PrintKey;
-use keep::ArrivedFile;
+use book::ArrivedFile;
 use std::alloc::{AllocError, Global};
 use std::collections::BTreeSet;
 use suites::{PoolFile, Shelves};

@@ -4,9 +4,9 @@ ghost use Rattle.std.specs.Prelude.{◌≡◌, ℕ, true, List, Contains, Ok, co
 ghost use Rattle.rules.specs.Configuration.{config_in};
 ghost use Rattle.rules.specs.Values.{ConfigValue};
 ghost use Rattle.rules.specs.declared.suite.Suite.{Suite};
-ghost use Rattle.texts.specs.Calendar.{date_text};
-ghost use Rattle.texts.specs.Release.{valid_until};
-ghost use Rattle.texts.specs.Stanzas.{line_field};
+ghost use Rattle.indices.specs.Calendar.{date_text};
+ghost use Rattle.indices.specs.Release.{valid_until};
+ghost use Rattle.indices.specs.Stanzas.{line_field};
 ghost use Rattle.figures.specs.Example.{example, example_metrics, example_status};
 ghost use Rattle.figures.specs.Numbers.{date_at, end_at};
 ghost use Rattle.figures.specs.Printing.{metrics_text, stands_for_itself, status_text};

@@ -1,8 +1,8 @@
 //! Figures of what a keeper keeps, and their texts.
 
 ghost use Rattle.std.specs.Prelude.{◌≡◌, ◌≤◌, ◌++◌, ◌∷◌, [], All, IfErr, IfOk, OnOk};
-ghost use Rattle.keep.specs.Book.{latest};
-ghost use Rattle.keep.specs.Keeping.{Apart, MayAnswer, Reads};
+ghost use Rattle.book.specs.Book.{latest};
+ghost use Rattle.book.specs.Keeping.{Apart, MayAnswer, Reads};
 ghost use Rattle.figures.specs.Families.{families, family, kept_families, lone, suites_families, uploads_families};
 ghost use Rattle.figures.specs.Printing.{metrics_text, status_text};
 ghost use Rattle.figures.specs.declared.family.Figure.TheVariants as figure;
@@ -13,7 +13,7 @@ use crate::kept::push_kept;
 use crate::printing::{metrics_text, status_text};
 use crate::shown::{changed_family, items_family, until_family};
 use crate::waiting::{oldest_family, waiting_family};
-use keep::{ArrivedFile, Judgement, KeepFault, Keeper, Waiting};
+use book::{ArrivedFile, Judgement, KeepFault, Keeper, Waiting};
 use rules::Suite;
 use std::alloc::{AllocError, Global};
 use suites::Shelves;

@@ -1,39 +1,16 @@
 //! What the suites show.
 
-ghost use Rattle.std.specs.Prelude.{◌≡◌, ◌≤◌, ◌+◌, ◌++◌, All, IfOk, OnOk, if◌then◌else◌, map};
+ghost use Rattle.std.specs.Prelude.{◌≡◌, ◌≤◌, ◌+◌, ◌++◌, All, IfOk, OnOk, map};
 ghost use Rattle.std.specs.List.{enumerate_from, flat_map};
-ghost use Rattle.texts.specs.Calendar.{latest};
+ghost use Rattle.indices.specs.Calendar.{latest};
 ghost use Rattle.figures.specs.Families.{changed_family, changed_sample, items_family, items_sample, until_family, until_samples};
-ghost use Rattle.figures.specs.Numbers.{date_at, end_at, item_count};
+ghost use Rattle.figures.specs.Numbers.{date_at, end_at};
 
 use crate::family::{Family, Figure, Sample, labelled, push_labelled_if};
+use indices::item_count;
 use rules::Suite;
 use std::alloc::{AllocError, Global};
 use suites::Shelves;
-
-/// The count, and one more if something counts. A count beyond a `u64` is refused like want of memory.
-fn one_more_if(counts: bool, count: u64) -> Result<u64, AllocError>
-    ensures { IfOk result (λ more. more ≡ (if counts then count + 1 else count)) }
-{
-    if !counts {
-        return Ok(count);
-    }
-    match count.checked_add(1) {
-        Some(more) => Ok(more),
-        None => Err(AllocError),
-    }
-}
-
-/// How many items the suite at a position shows.
-fn item_count(shelves: &Shelves, suite: usize) -> Result<u64, AllocError>
-    ensures { IfOk result (λ count. count ≡ item_count shelves.now suite) }
-{
-    let mut count = 0;
-    for (key, _) in shelves.items() {
-        count = one_more_if(key.suite == suite, count)?;
-    }
-    Ok(count)
-}
 
 /// How many items a suite shows, with its codename.
 fn items_sample(
@@ -47,7 +24,7 @@ fn items_sample(
     labelled(
         alloc,
         suite.codename.as_str(),
-        item_count(shelves, position)?,
+        item_count(shelves, position, None)?,
     )
 }
 

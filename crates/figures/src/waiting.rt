@@ -3,14 +3,14 @@
 ghost use Rattle.std.specs.Prelude.{◌≡◌, ◌∷◌, ◌++◌, List, [], cond, IfOk, OnOk, length, min};
 ghost use Rattle.std.specs.List.{list_any};
 ghost use Rattle.std.specs.Option.{option_map_or};
-ghost use Rattle.keep.specs.declared.change.Waiting.{Waiting as WaitingValue};
+ghost use Rattle.book.specs.declared.change.Waiting.{Waiting as WaitingValue};
 ghost use Rattle.figures.specs.Families.{oldest_family, oldest_samples, state_word, waiting_family, waiting_sample};
 ghost use Rattle.figures.specs.Keys.{HasSigns};
 ghost use Rattle.figures.specs.Numbers.{in_state, is_changes_of, is_in, oldest};
 
 use crate::family::{Family, Figure, Sample, labelled, push_labelled_if};
 use crate::key::Sign;
-use keep::{ArrivedFile, Waiting};
+use book::{ArrivedFile, Waiting};
 use std::alloc::{AllocError, Global};
 use std::collections::BTreeSet;
 

@@ -5,9 +5,9 @@ use Rattle.std.proofs.lemmas.List.{append_assoc, drop_more}
 use Rattle.sums.specs.Prints.{print as print_of, same_print}
 use Rattle.sums.specs.declared.print.Print.{Print}
 use Rattle.sums.specs.declared.entries.Entry.{Entry}
-use Rattle.keep.specs.Book.{is_arrival_of}
-use Rattle.keep.proofs.Prints.{same_print-Decides}
-use Rattle.keep.specs.declared.arrival.Arrival.{Arrival}
+use Rattle.book.specs.Book.{is_arrival_of}
+use Rattle.book.proofs.Prints.{same_print-Decides}
+use Rattle.book.specs.declared.arrival.Arrival.{Arrival}
 use Rattle.inquiry.specs.Reading.{body_of, kept_text, kept_texts}
 
 -- ---- a body that is read

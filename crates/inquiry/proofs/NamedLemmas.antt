@@ -1,45 +1,19 @@
 -- What arrived under a name, found in groups.
-use Rattle.std.proofs.Common.{◌≡◌, ℕ, Bool, true, false, ◌&&◌, not, cond, List, [], ◌∷◌, ◌++◌, map, filter, find, Some, None, bytes_eq, refl, sym, ap, ◌∙◌, append-nil, String, Global}
-use Rattle.std.specs.BTreeMap.{BTreeMap, UpdatesBy, get_by_text}
-use Rattle.std.specs.Cmp.Lexicographic.{slice_cmp}
+use Rattle.std.proofs.Common.{◌≡◌, ℕ, Bool, true, false, ◌&&◌, not, cond, List, [], ◌∷◌, ◌++◌, map, filter, find, Some, bytes_eq, refl, sym, ap, ◌∙◌, String, Global}
+use Rattle.std.specs.BTreeMap.{BTreeMap}
 use Rattle.std.specs.Option.{option_map}
-use Rattle.std.specs.Ordering.{nat_cmp}
-use Rattle.std.specs.String.{string_cmp, string_bytes}
 use Rattle.std.specs.declared.vec.Vec.{Vec}
 use Rattle.std.proofs.lemmas.List.{map-append}
 use Rattle.std.proofs.lemmas.List.Elements.{filter-append}
-use Rattle.std.proofs.lemmas.Map.Text.{btree_map_updates_text}
-use Rattle.std.proofs.lemmas.Slice.Eq.{bytes_eq-Decides}
 use Rattle.sums.specs.Prints.{same_print}
 use Rattle.sums.specs.declared.print.Print.{Print}
-use Rattle.keep.specs.Book.{counts_since}
-use Rattle.keep.specs.declared.arrival.Counting.{Counting}
-use Rattle.keep.specs.declared.arrived.ArrivedFile.{ArrivedFile}
-use Rattle.keep.specs.declared.change.Lack.{Lack}
+use Rattle.book.specs.Book.{counts_since}
+use Rattle.book.specs.declared.arrival.Counting.{Counting}
+use Rattle.book.specs.declared.arrived.ArrivedFile.{ArrivedFile}
+use Rattle.book.specs.declared.change.Lack.{Lack}
 use Rattle.inquiry.specs.Instead.{came_for, came_in, came_of, is_another, is_other, print_of}
-use Rattle.inquiry.specs.Named.{IsByName, delivered, deliveries_in, deliveries_of, has_print, is_named, moment_in}
+use Rattle.inquiry.specs.Named.{IsByName, delivered, deliveries_of, has_print, is_named, moment_in}
 use Rattle.inquiry.specs.declared.named.Delivered.{Delivered}
-
--- ---- groups
-
--- one more delivery in the group of a name
-pub group_added : (m mid n : BTreeMap (String Global) (Vec Delivered Global)) (v : Vec Delivered Global) (bs p : List ℕ) (d : Delivered)
-    → UpdatesBy string_cmp (λ k. slice_cmp nat_cmp bs (string_bytes k)) mid n (Some v) → bs ≡ p → v.items ≡ deliveries_in (get_by_text m p) ++ d ∷ []
-    → ((q : List ℕ) → bytes_eq p q ≡ false → get_by_text mid q ≡ get_by_text m q)
-    → (q : List ℕ) → deliveries_in (get_by_text n q) ≡ deliveries_in (get_by_text m q) ++ cond (bytes_eq p q) (d ∷ []) []
-group_added m mid n v bs p d updates e is others q =
-    ap deliveries_in (btree_map_updates_text bs mid n (Some v) updates q ∙ ap (λ r. cond (bytes_eq r q) (Some v) (get_by_text mid q)) e)
-    ∙ by_kind (bytes_eq p q) refl
-  where
-    by_kind : (b : Bool) → bytes_eq p q ≡ b → deliveries_in (cond b (Some v) (get_by_text mid q)) ≡ deliveries_in (get_by_text m q) ++ cond b (d ∷ []) []
-    by_kind true t = is ∙ ap (λ r. deliveries_in (get_by_text m r) ++ d ∷ []) ((bytes_eq-Decides p q).0 t)
-    by_kind false t = ap deliveries_in (others q t) ∙ sym (append-nil (deliveries_in (get_by_text m q)))
-
--- the groups without one, at other names
-pub taken_apart : (m n : BTreeMap (String Global) (Vec Delivered Global)) (bs : List ℕ) → UpdatesBy string_cmp (λ k. slice_cmp nat_cmp bs (string_bytes k)) m n None
-    → (q : List ℕ) → bytes_eq bs q ≡ false → get_by_text n q ≡ get_by_text m q
-taken_apart m n bs updates q other =
-    btree_map_updates_text bs m n None updates q ∙ ap (λ b. cond b None (get_by_text m q)) other
 
 -- one more file that arrived
 pub deliveries-push : (q : List ℕ) (done : List ArrivedFile) (f : ArrivedFile)

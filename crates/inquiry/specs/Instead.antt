@@ -6,11 +6,11 @@ use Rattle.std.specs.declared.string.String.{String}
 use Rattle.std.specs.declared.vec.Vec.{Vec}
 use Rattle.sums.specs.Prints.{same_print}
 use Rattle.sums.specs.declared.print.Print.{Print}
-use Rattle.keep.specs.Book.{counts_since}
-use Rattle.keep.specs.declared.arrival.Counting.{Counting}
-use Rattle.keep.specs.declared.arrived.ArrivedFile.{ArrivedFile}
-use Rattle.keep.specs.declared.change.Lack.{Lack}
-use Rattle.inquiry.specs.Named.{deliveries_in}
+use Rattle.book.specs.Book.{counts_since}
+use Rattle.book.specs.declared.arrival.Counting.{Counting}
+use Rattle.book.specs.declared.arrived.ArrivedFile.{ArrivedFile}
+use Rattle.book.specs.declared.change.Lack.{Lack}
+use Rattle.book.specs.Groups.{group_in}
 use Rattle.inquiry.specs.declared.named.Delivered.{Delivered}
 
 -- What has arrived has the name of the lacking file.
@@ -42,4 +42,4 @@ came_of counting deliveries l = map (λ d. d.print) (filter (is_another counting
 
 -- the prints of the other contents in the group of its name
 abbrev pub came_in : Counting → BTreeMap (String Global) (Vec Delivered Global) → Lack → List Print
-came_in counting named l = came_of counting (deliveries_in (get_by_text named l.name)) l
+came_in counting named l = came_of counting (group_in (get_by_text named l.name)) l

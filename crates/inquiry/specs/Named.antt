@@ -1,12 +1,13 @@
 -- What has arrived, by name.
-use Rattle.std.specs.Prelude.{◌≡◌, ℕ, Bool, bytes_eq, List, [], filter, find, map, Option, Some, None, option_map}
+use Rattle.std.specs.Prelude.{◌≡◌, ℕ, Bool, bytes_eq, List, filter, find, map, Option, option_map}
 use Rattle.std.specs.BTreeMap.{BTreeMap, get_by_text}
 use Rattle.std.specs.declared.alloc.Global.{Global}
 use Rattle.std.specs.declared.string.String.{String}
 use Rattle.std.specs.declared.vec.Vec.{Vec}
 use Rattle.sums.specs.Prints.{same_print}
 use Rattle.sums.specs.declared.print.Print.{Print}
-use Rattle.keep.specs.declared.arrived.ArrivedFile.{ArrivedFile}
+use Rattle.book.specs.declared.arrived.ArrivedFile.{ArrivedFile}
+use Rattle.book.specs.Groups.{group_in}
 use Rattle.inquiry.specs.declared.named.Delivered.{Delivered}
 
 -- a file that arrived, without its name
@@ -21,14 +22,9 @@ is_named name f = bytes_eq f.name name
 abbrev pub deliveries_of : List ℕ → List ArrivedFile → List Delivered
 deliveries_of name arrived = map delivered (filter (is_named name) arrived)
 
--- what a group has; nothing if there is no group
-abbrev pub deliveries_in : Option (Vec Delivered Global) → List Delivered
-deliveries_in None = []
-deliveries_in (Some group) = group.items
-
 -- the group of each name has what arrived under it
 abbrev pub IsByName : List ArrivedFile → BTreeMap (String Global) (Vec Delivered Global) → Type 0
-IsByName arrived named = (name : List ℕ) → deliveries_in (get_by_text named name) ≡ deliveries_of name arrived
+IsByName arrived named = (name : List ℕ) → group_in (get_by_text named name) ≡ deliveries_of name arrived
 
 -- it has this print
 abbrev pub has_print : Print → Delivered → Bool

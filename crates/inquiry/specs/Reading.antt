@@ -7,8 +7,8 @@ use Rattle.records.specs.Values.{ChangesValue}
 use Rattle.sums.specs.declared.entries.Entry.{Entry}
 use Rattle.sums.specs.declared.print.Print.{Print}
 use Rattle.suites.specs.Upload.{UploadValue, has_text}
-use Rattle.keep.specs.Book.{is_arrival_of}
-use Rattle.keep.specs.declared.arrival.Arrival.{Arrival}
+use Rattle.book.specs.Book.{is_arrival_of}
+use Rattle.book.specs.declared.arrival.Arrival.{Arrival}
 
 -- the body of a name and print, if it is there
 abbrev pub body_of : List Arrival → List ℕ → Print → Option (List ℕ)

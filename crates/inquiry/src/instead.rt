@@ -3,8 +3,8 @@
 ghost use Rattle.std.specs.Prelude.{◌≡◌, IfOk, map};
 ghost use Rattle.inquiry.specs.Instead.{came_in, came_of, is_another};
 
-use crate::named::{Delivered, deliveries_of};
-use keep::{Counting, Lack};
+use crate::named::Delivered;
+use book::{Counting, Lack, group_of};
 use para::Listed;
 use std::alloc::{AllocError, Global};
 use std::collections::BTreeMap;
@@ -47,7 +47,7 @@ pub fn came_instead(
 {
     let mut all = Vec::new(alloc);
     for lack in lacks {
-        let deliveries = deliveries_of(named, lack.name.as_str());
+        let deliveries = group_of(named, lack.name.as_str());
         all.push(came_of(alloc, deliveries, counting, lack)?)?;
     }
     Ok(all)

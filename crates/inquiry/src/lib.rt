@@ -6,5 +6,5 @@ mod named;
 mod reading;
 
 pub use instead::came_instead;
-pub use named::{Delivered, by_name, deliveries_of};
+pub use named::{Delivered, by_name};
 pub use reading::read_upload;

@@ -2,12 +2,12 @@
 
 ghost use Rattle.std.specs.Prelude.{◌≡◌, ◌≢◌, All, AllPairs, IfErr, IfOk, IfSome, OnOk, length, zip};
 ghost use Rattle.std.specs.Option.{option_map};
-ghost use Rattle.keep.specs.Keeping.{MayAnswer, Reads};
+ghost use Rattle.book.specs.Keeping.{MayAnswer, Reads};
 ghost use Rattle.sums.specs.Prints.{print as print_of_bytes, same_print};
 ghost use Rattle.suites.specs.Upload.{IsTextOf};
 ghost use Rattle.inquiry.specs.Reading.{body_of, changes_of, kept_text, kept_texts, kept_upload};
 
-use keep::{KeepFault, Keeper};
+use book::{KeepFault, Keeper};
 use para::{Listed, Text};
 use records::{Changes, RecordFault};
 use std::alloc::Global;

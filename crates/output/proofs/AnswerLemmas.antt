@@ -9,7 +9,7 @@ use Rattle.rules.proofs.VerdictNumbers.{same_verdict}
 use Rattle.suites.specs.Shelves.{ShelvesValue}
 use Rattle.suites.specs.Upload.{UploadValue}
 use Rattle.suites.specs.Verdict.{verdict_on}
-use Rattle.keep.specs.declared.change.Judgement.{Judgement}
+use Rattle.book.specs.declared.change.Judgement.{Judgement}
 use Rattle.output.specs.Explaining.Answers.{first_line, meant_by, meant_lines, said_below, said_data, todo_by}
 use Rattle.output.specs.Explaining.Judged.{IsAnswerOf, judged_data, judged_lines, judged_object, lines_below, means, names, number_if, sentence, stays, today_if, today_lines}
 use Rattle.output.specs.Explaining.Sentences.{is_accepted, meaning, remedy}

@@ -5,9 +5,9 @@ use Rattle.serde_json.specs.View.{items_of, view}
 use Rattle.serde_json.specs.declared.value.Value.{Null, the_lemmas}
 use Rattle.serde_json.specs.Written.{has_float, items_have_float}
 use Rattle.sums.specs.declared.print.Print.{Print}
-use Rattle.keep.specs.declared.change.Lack.{Lack}
-use Rattle.keep.specs.declared.change.Waiting.{Waiting}
-use Rattle.keep.specs.declared.change.Judgement.{Judgement}
+use Rattle.book.specs.declared.change.Lack.{Lack}
+use Rattle.book.specs.declared.change.Waiting.{Waiting}
+use Rattle.book.specs.declared.change.Judgement.{Judgement}
 use Rattle.rules.specs.declared.verdict.Verdict.{Verdict}
 use Rattle.output.specs.declared.explaining.answer.Answer.{Answer}
 use Rattle.output.specs.Explaining.Answers.{meant_by, said_data, todo_by}

@@ -1,12 +1,8 @@
 -- Two lists side by side, of each pair of which something is made.
-use Rattle.std.proofs.Common.{◌≡◌, ◌+◌, ◌<◌, min, List, [], ◌∷◌, ◌++◌, length, drop, get_or, append_assoc, refl, sym, ap, ◌∙◌, arith}
+use Rattle.std.proofs.Common.{◌≡◌, ◌+◌, ◌<◌, min, List, [], ◌∷◌, ◌++◌, length, drop, get_or, append_assoc, sym, ap, ◌∙◌, arith}
 use Rattle.std.specs.List.{flat_map, zip}
-use Rattle.std.proofs.lemmas.List.{append-nil, drop_more, drop_all}
+use Rattle.std.proofs.lemmas.List.{append-nil, drop_more, drop_all, length_push}
 use Rattle.std.proofs.lemmas.Slice.Zip.{get_or-zip, length-zip}
-
-length_one_more : {Y : Type 0} (ys : List Y) (y : Y) → length (ys ++ y ∷ []) ≡ length ys + 1
-length_one_more [] y = refl
-length_one_more (z ∷ ys) y = let e = length_one_more ys y in omega arith
 
 module _ {A B C Y : Type 0} (f : A × B → List C) (ks : List A) (vs : List B) (done whole : List C) (ys : List Y) where
   -- what is left after one more pair
@@ -23,7 +19,7 @@ module _ {A B C Y : Type 0} (f : A × B → List C) (ks : List A) (vs : List B) 
       → length ys < length ks → length ys < length vs → k ≡ get_or ks (length ys) k → v ≡ get_or vs (length ys) v
       → more ≡ done ++ f (k, v) → more ++ flat_map f (drop (length (ys ++ y ∷ [])) (zip ks vs)) ≡ whole
   pair_more y k v more known low high first second pushed =
-      (λ i. pushed i ++ flat_map f (drop (length_one_more ys y i) (zip ks vs)))
+      (λ i. pushed i ++ flat_map f (drop (length_push ys y i) (zip ks vs)))
       ∙ append_assoc done (f (k, v)) (flat_map f (drop (length ys + 1) (zip ks vs)))
       ∙ ap (λ rest. done ++ rest) (sym (left k v low high first second))
       ∙ known

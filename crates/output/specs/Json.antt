@@ -9,9 +9,9 @@ use Rattle.rules.specs.Verdicts.{number_of}
 use Rattle.suites.specs.declared.item.Item.{Item}
 use Rattle.suites.specs.declared.item.PoolFile.{PoolFile}
 use Rattle.suites.specs.declared.key.ShelfKey.{ShelfKey}
-use Rattle.keep.specs.declared.change.Judgement.{Judgement}
-use Rattle.keep.specs.declared.change.Waiting.{Waiting}
-use Rattle.output.specs.Listing.{codename_at}
+use Rattle.suites.specs.Codenames.{codename_at}
+use Rattle.book.specs.declared.change.Judgement.{Judgement}
+use Rattle.book.specs.declared.change.Waiting.{Waiting}
 
 -- a file of the pool: its path, its SHA-256 in lower-case hexadecimal digits, and how many bytes it has
 abbrev pub file_data : PoolFile → Data
@@ -54,4 +54,4 @@ json_on entry = compact_text (item_data entry.1)
 
 -- the line of what stands on a shelf, with the codename of its suite
 abbrev pub json_in : ConfigValue → ShelfKey × Item → List ℕ
-json_in config entry = compact_text (shown_data (codename_at config entry.0.suite) entry.1)
+json_in config entry = compact_text (shown_data (codename_at config.suites entry.0.suite) entry.1)

@@ -1,11 +1,11 @@
 -- What a suite shows, and what all suites show, as lines.
-use Rattle.std.specs.Prelude.{ℕ, nat_eq, List, [], ◌++◌, filter, slice_get, codes}
+use Rattle.std.specs.Prelude.{ℕ, nat_eq, List, ◌++◌, filter, codes}
 use Rattle.std.specs.FinMap.{entries}
-use Rattle.std.specs.Option.{option_map_or}
 use Rattle.rules.specs.Values.{ConfigValue}
 use Rattle.suites.specs.Shelves.{ShelvesValue}
 use Rattle.suites.specs.declared.item.Item.{Item}
 use Rattle.suites.specs.declared.key.ShelfKey.{ShelfKey}
+use Rattle.suites.specs.Codenames.{codename_at}
 
 -- a word, a space, and the words that follow
 abbrev pub before : List ℕ → List ℕ → List ℕ
@@ -23,10 +23,6 @@ line_on entry = line_of entry.1
 unfoldable pub shown_in : ℕ → ShelvesValue → List (ShelfKey × Item)
 shown_in suite shelves = filter (λ entry. nat_eq entry.0.suite suite) (entries shelves)
 
--- the codename of the suite at a position, or an empty text if there is no suite
-unfoldable pub codename_at : ConfigValue → ℕ → List ℕ
-codename_at config suite = option_map_or (λ s. s.codename) (slice_get config.suites suite) []
-
 -- the codename of the suite of a shelf, and the line of what stands there
 abbrev pub line_in : ConfigValue → ShelfKey × Item → List ℕ
-line_in config entry = before (codename_at config entry.0.suite) (line_on entry)
+line_in config entry = before (codename_at config.suites entry.0.suite) (line_on entry)

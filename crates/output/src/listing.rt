@@ -4,4 +4,4 @@ mod json;
 mod shown;
 
 pub use json::{all_json, shown_json, verdict_json, waiting_json};
-pub use shown::{all_lines, codename_at, shown_lines};
+pub use shown::{all_lines, shown_lines};

@@ -16,11 +16,12 @@ use Rattle.suites.specs.declared.key.Kind.{Kind}
 use Rattle.suites.specs.declared.key.Kind.TheVariants.{Source, Binary}
 use Rattle.suites.specs.declared.item.Item.{Item}
 use Rattle.suites.specs.declared.item.PoolFile.{PoolFile}
-use Rattle.keep.specs.declared.change.Judgement.{Judgement}
-use Rattle.keep.specs.declared.change.Lack.{Lack}
-use Rattle.keep.specs.declared.change.Waiting.{Waiting}
-use Rattle.texts.specs.Calendar.{latest, date_text}
-use Rattle.texts.specs.Stanzas.{file_name, fields_of_text}
+use Rattle.book.specs.declared.change.Judgement.{Judgement}
+use Rattle.book.specs.declared.change.Lack.{Lack}
+use Rattle.book.specs.declared.change.Waiting.{Waiting}
+use Rattle.indices.specs.Calendar.{latest, date_text}
+use Rattle.indices.specs.Stanzas.{file_name, fields_of_text}
+use Rattle.indices.specs.Counting.{item_count}
 use Rattle.pages.specs.Escapes.{is_markup, escaped, escaped_byte}
 use Rattle.pages.specs.Frame.{policy_text, style_text, title_text, heading_text, front_text, archive_name, header_text, head_text, cell, constant_cell, name_cell}
 use Rattle.pages.specs.declared.frame.TheConstants.{START, VIEWPORT, ICON, BODY, MAIN}
@@ -30,7 +31,7 @@ use Rattle.pages.specs.declared.site.Site.TheVariants.{Tree, Served}
 use Rattle.pages.specs.declared.table.TheConstants.{TABLE_END}
 use Rattle.pages.specs.declared.uploads.TheConstants.{WAITING_HEAD, JUDGED_HEAD}
 use Rattle.pages.specs.Links.{address, link}
-use Rattle.pages.specs.IndexPage.{KeyValue, item_count, other_text, name_text, description_text, date_text_of, date_at, count_text, counts_text, word_text, words_text, state_text, key_link, known_key, key_text, option_text, field_text, apt_line, source_line, deb_lines, types_text, sources_text, section, sections_from}
+use Rattle.pages.specs.IndexPage.{KeyValue, other_text, name_text, description_text, date_text_of, date_at, count_text, counts_text, word_text, words_text, state_text, key_link, known_key, key_text, option_text, field_text, apt_line, source_line, deb_lines, types_text, sources_text, section, sections_from}
 use Rattle.pages.specs.Markup.{markup, item_form, has_description_at, suite_form, lack_count}
 use Rattle.pages.specs.Meanings.{verdict_word, meaning}
 use Rattle.pages.specs.Sites.{most_rows, page_path, upload_name, first_rows, newest, more_text}
@@ -361,8 +362,8 @@ counted word n m =
 pub all_counted : (shelves others : ShelvesValue) (i j : ℕ) → Alike (counts_text shelves i) (counts_text others j)
 unfolding counts_text
 all_counted shelves others i j =
-    both (counted (codes "Packages") (item_count shelves i Binary) (item_count others j Binary))
-    (counted (codes "Sources") (item_count shelves i Source) (item_count others j Source))
+    both (counted (codes "Packages") (item_count shelves i (Some Binary)) (item_count others j (Some Binary)))
+    (counted (codes "Sources") (item_count shelves i (Some Source)) (item_count others j (Some Source)))
 
 word_bare : (word : List ℕ) → markup (word_text word) ≡ []
 unfolding word_text

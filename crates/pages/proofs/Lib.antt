@@ -1,11 +1,9 @@
 pub mod Plain
 pub mod Appends
-pub mod Shown
 pub mod Sections
 pub mod Backwards
 pub mod Rows
 pub mod Synopses
 pub mod Alike
 pub mod Addresses
-pub mod Sorting
 pub mod RowOrders

@@ -1,19 +1,15 @@
 -- The first page: what suites there are, and how a machine installs from them.
-use Rattle.std.specs.Prelude.{ℕ, ◌+◌, ◌==◌, Bool, ◌&&◌, nat_lt, if◌then◌else◌, List, [], ◌∷◌, ◌++◌, length, filter, slice_get, codes, Option}
+use Rattle.std.specs.Prelude.{ℕ, ◌+◌, Bool, nat_lt, if◌then◌else◌, List, [], ◌∷◌, ◌++◌, slice_get, codes, Option, Some}
 use Rattle.std.specs.Fmt.{decimal}
 use Rattle.std.specs.List.{flat_map}
-use Rattle.std.specs.FinMap.{entries}
 use Rattle.std.specs.Option.{option_map_or}
 use Rattle.rules.specs.Suites.{keeps_architecture}
 use Rattle.rules.specs.Values.{ConfigValue}
 use Rattle.rules.specs.declared.suite.Suite.{Suite}
-use Rattle.suites.specs.Keys.{kind_number}
 use Rattle.suites.specs.Shelves.{ShelvesValue}
-use Rattle.suites.specs.declared.key.Kind.{Kind}
 use Rattle.suites.specs.declared.key.Kind.TheVariants.{Source, Binary}
-use Rattle.suites.specs.declared.key.ShelfKey.{ShelfKey}
-use Rattle.suites.specs.declared.item.Item.{Item}
-use Rattle.texts.specs.Calendar.{latest, date_text}
+use Rattle.indices.specs.Calendar.{latest, date_text}
+use Rattle.indices.specs.Counting.{item_count}
 use Rattle.pages.specs.Escapes.{escaped}
 use Rattle.pages.specs.Frame.{head_text, foot_text, script_text}
 use Rattle.pages.specs.Links.{link}
@@ -21,14 +17,6 @@ use Rattle.pages.specs.Sites.{page_path}
 use Rattle.pages.specs.declared.index.Key.{Key}
 use Rattle.pages.specs.declared.index.TheConstants.{KEYRINGS, URL, HINT, LINKS, SIGNED, UNKNOWN}
 use Rattle.pages.specs.declared.site.Site.{Site}
-
--- an item on its shelf is of the suite at a position and of a kind
-abbrev pub is_of_kind : ℕ → Kind → ShelfKey × Item → Bool
-is_of_kind suite kind a = (a.0.suite == suite) && (kind_number a.1.kind == kind_number kind)
-
--- how many items of a kind the suite at a position shows
-unfoldable pub item_count : ShelvesValue → ℕ → Kind → ℕ
-item_count shelves suite kind = length (filter (is_of_kind suite kind) (entries shelves))
 
 -- the other name of a suite, if it has one
 unfoldable pub other_text : Option (List ℕ) → List ℕ
@@ -59,8 +47,8 @@ count_text word count =
 -- how many packages and how many sources the suite at a position shows
 unfoldable pub counts_text : ShelvesValue → ℕ → List ℕ
 counts_text shelves suite =
-    count_text (codes "Packages") (item_count shelves suite Binary)
-    ++ count_text (codes "Sources") (item_count shelves suite Source)
+    count_text (codes "Packages") (item_count shelves suite (Some Binary))
+    ++ count_text (codes "Sources") (item_count shelves suite (Some Source))
 
 -- a blank and a word
 unfoldable pub word_text : List ℕ → List ℕ

@@ -3,7 +3,6 @@ pub mod Frame
 pub mod Links
 pub mod Sites
 pub mod Meanings
-pub mod Sorted
 pub mod SuitePage
 pub mod IndexPage
 pub mod UploadsPage

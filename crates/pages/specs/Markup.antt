@@ -2,12 +2,12 @@
 use Rattle.std.specs.Prelude.{ℕ, Bool, false, List, filter, length, slice_get, is_some, codes}
 use Rattle.std.specs.Option.{option_map_or}
 use Rattle.para.specs.Fields.{field_named}
-use Rattle.keep.specs.declared.change.Waiting.{Waiting}
+use Rattle.book.specs.declared.change.Waiting.{Waiting}
 use Rattle.rules.specs.Suites.{keeps_architecture}
 use Rattle.rules.specs.Values.{ConfigValue}
 use Rattle.rules.specs.declared.suite.Suite.{Suite}
 use Rattle.suites.specs.declared.item.Item.{Item}
-use Rattle.texts.specs.Stanzas.{fields_of_text}
+use Rattle.indices.specs.Stanzas.{fields_of_text}
 use Rattle.pages.specs.Escapes.{is_markup}
 
 -- the bytes of a page that could begin or end markup, or end an attribute

@@ -1,7 +1,7 @@
 -- What differs between the pages of a tree and those that the archive serves.
 use Rattle.std.specs.Prelude.{ℕ, ◌-◌, ◌==◌, if◌then◌else◌, List, [], ◌++◌, take, reverse, codes}
 use Rattle.std.specs.Fmt.{decimal}
-use Rattle.texts.specs.Indices.{path_in}
+use Rattle.indices.specs.Indices.{path_in}
 use Rattle.pages.specs.Escapes.{escaped}
 use Rattle.pages.specs.Links.{link}
 use Rattle.pages.specs.declared.site.Site.{Site}

@@ -16,12 +16,13 @@ use Rattle.suites.specs.declared.key.Kind.TheVariants.{Source, Binary}
 use Rattle.suites.specs.declared.key.ShelfKey.{ShelfKey}
 use Rattle.suites.specs.declared.item.Item.{Item}
 use Rattle.suites.specs.declared.item.PoolFile.{PoolFile}
-use Rattle.texts.specs.Stanzas.{file_name, fields_of_text}
+use Rattle.suites.specs.Codenames.{codename_at}
+use Rattle.indices.specs.Stanzas.{file_name, fields_of_text}
 use Rattle.pages.specs.Escapes.{escaped}
 use Rattle.pages.specs.Frame.{head_text, foot_text, filter_text, cell, name_cell}
 use Rattle.pages.specs.IndexPage.{description_text, counts_text}
 use Rattle.pages.specs.Links.{link}
-use Rattle.pages.specs.Sorted.{sorted_by}
+use Rattle.book.specs.Sorted.{sorted_by}
 use Rattle.pages.specs.declared.suite.TheConstants.{LINKS, FILTER_FIELD, TABLE_HEAD}
 use Rattle.pages.specs.declared.table.TheConstants.{TABLE_END}
 
@@ -100,10 +101,6 @@ shown shelves suite = sorted_by row_order (items_of shelves suite)
 unfoldable pub rows : ShelvesValue → ℕ → List ℕ
 rows shelves suite = flat_map item_row (shown shelves suite)
 
--- the codename of the suite at a position, or an empty text if there is no suite
-unfoldable pub codename_at : ConfigValue → ℕ → List ℕ
-codename_at config suite = option_map_or (λ s. s.codename) (slice_get config.suites suite) []
-
 -- what the suite at a position is for, if there is such a suite and the configuration says it
 unfoldable pub description_at : ConfigValue → ℕ → List ℕ
 description_at config suite = option_map_or (λ s. description_text s.description) (slice_get config.suites suite) []
@@ -115,7 +112,7 @@ summary config shelves suite = description_at config suite ++ codes "<dl>" ++ co
 -- The page of the suite at a position.
 unfoldable pub suite_page : ConfigValue → ShelvesValue → ℕ → List ℕ
 suite_page config shelves suite =
-    head_text config (codename_at config suite) LINKS.now
+    head_text config (codename_at config.suites suite) LINKS.now
     ++ summary config shelves suite
     ++ FILTER_FIELD.now
     ++ TABLE_HEAD.now

@@ -2,9 +2,9 @@
 use Rattle.std.specs.Prelude.{ℕ, ◌==◌, if◌then◌else◌, List, [], ◌++◌, length, codes}
 use Rattle.std.specs.Fmt.{decimal}
 use Rattle.std.specs.List.{flat_map}
-use Rattle.keep.specs.declared.change.Judgement.{Judgement}
-use Rattle.keep.specs.declared.change.Lack.{Lack}
-use Rattle.keep.specs.declared.change.Waiting.{Waiting}
+use Rattle.book.specs.declared.change.Judgement.{Judgement}
+use Rattle.book.specs.declared.change.Lack.{Lack}
+use Rattle.book.specs.declared.change.Waiting.{Waiting}
 use Rattle.para.specs.Bytes.{is_nil}
 use Rattle.rules.specs.Values.{ConfigValue}
 use Rattle.rules.specs.declared.verdict.Verdict.{Verdict}

@@ -1,7 +1,7 @@
 //! What a suite shows, in the order of its rows.
 
 ghost use Rattle.std.specs.Prelude.{◌≡◌, ◌++◌, ◌∷◌, [], if◌then◌else◌, IfOk, OnOk, map};
-ghost use Rattle.pages.specs.Sorted.{sorted_by};
+ghost use Rattle.book.specs.Sorted.{sorted_by};
 ghost use Rattle.pages.specs.SuitePage.{is_of, items_of, row_order, shown};
 
 use std::alloc::{AllocError, Global};

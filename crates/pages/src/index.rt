@@ -1,18 +1,20 @@
 //! The first page: what suites there are, and how a machine installs from them.
 
-ghost use Rattle.std.specs.Prelude.{◌≡◌, ◌++◌, ◌+◌, IfOk, if◌then◌else◌, OnOk, string_bytes};
+ghost use Rattle.std.specs.Prelude.{◌≡◌, ◌++◌, ◌+◌, IfOk, OnOk, string_bytes, Some};
 ghost use Rattle.std.specs.List.{flat_map};
 ghost use Rattle.std.specs.Option.{option_map};
-ghost use Rattle.pages.specs.IndexPage.{is_of_kind, item_count, other_text, name_text, description_text, date_text_of, date_at, count_text, counts_text, word_text, words_text, state_text, key_value, key_link, known_key, key_text, option_text, field_text, apt_line, deb_lines, source_line, types_text, sources_text, section, sections_from, index_page};
+ghost use Rattle.indices.specs.Counting.{item_count};
+ghost use Rattle.pages.specs.IndexPage.{other_text, name_text, description_text, date_text_of, date_at, count_text, counts_text, word_text, words_text, state_text, key_value, key_link, known_key, key_text, option_text, field_text, apt_line, deb_lines, source_line, types_text, sources_text, section, sections_from, index_page};
 
 use crate::escape::{push_markup, push_text};
 use crate::frame::{push_foot, push_head, push_script};
 use crate::link::push_link;
 use crate::site::{Site, page_path};
+use indices::item_count;
 use para::Text;
 use rules::{Config, Suite};
 use std::alloc::{AllocError, Global};
-use suites::{Item, Kind, ShelfKey, Shelves};
+use suites::{Kind, Shelves};
 use texts::{LATEST, date_text};
 
 /// The file of the key by which Releases are signed, if no other name is given.
@@ -46,37 +48,6 @@ const KEYRINGS: &str = "/usr/share/keyrings/";
 
 /// The place where the script writes the address.
 const URL: &str = "<span class=\"url\">URL/</span>";
-
-/// The count, and one more if something counts. A count beyond a `u64` is refused like want of memory.
-fn one_more_if(counts: bool, count: u64) -> Result<u64, AllocError>
-    ensures { IfOk result (λ more. more ≡ (if counts then count + 1 else count)) }
-{
-    if !counts {
-        return Ok(count);
-    }
-    match count.checked_add(1) {
-        Some(more) => Ok(more),
-        None => Err(AllocError),
-    }
-}
-
-/// Whether an item is of a suite and a kind.
-fn is_of_kind(key: &ShelfKey, item: &Item, suite: usize, kind: Kind) -> bool
-    ensures { result ≡ is_of_kind suite kind (key.now, item.now) }
-{
-    key.suite == suite && item.kind.number() == kind.number()
-}
-
-/// How many items of a kind a suite shows.
-fn item_count(shelves: &Shelves, suite: usize, kind: Kind) -> Result<u64, AllocError>
-    ensures { IfOk result (λ count. count ≡ item_count shelves.now suite kind) }
-{
-    let mut count = 0;
-    for (key, item) in shelves.items() {
-        count = one_more_if(is_of_kind(key, item, suite, kind), count)?;
-    }
-    Ok(count)
-}
 
 /// Appends the other name of a suite, if it has one.
 #[tactic(auto, unfolding(crate::specs::IndexPage::other_text))]
@@ -160,9 +131,9 @@ fn push_count(
     kind: Kind,
     out: &mut String,
 ) -> Result<(), AllocError>
-    ensures { OnOk result (string_bytes out.new ≡ string_bytes out.old ++ count_text word.now (item_count shelves.now suite kind)) }
+    ensures { OnOk result (string_bytes out.new ≡ string_bytes out.old ++ count_text word.now (item_count shelves.now suite (Some kind))) }
 {
-    let count = item_count(shelves, suite, kind)?;
+    let count = item_count(shelves, suite, Some(kind))?;
     let count = format!(in alloc; "{count}")?;
     push_markup("<div><dt>", out)?;
     push_markup(word, out)?;

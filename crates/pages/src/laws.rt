@@ -3,8 +3,8 @@
 ghost use Rattle.std.specs.Prelude.{◌≡◌, ℕ, List, length, map, Option, option_map};
 ghost use Rattle.rules.specs.Values.{ConfigValue};
 ghost use Rattle.suites.specs.Shelves.{ShelvesValue};
-ghost use Rattle.keep.specs.declared.change.Judgement.{Judgement};
-ghost use Rattle.keep.specs.declared.change.Waiting.{Waiting};
+ghost use Rattle.book.specs.declared.change.Judgement.{Judgement};
+ghost use Rattle.book.specs.declared.change.Waiting.{Waiting};
 ghost use Rattle.pages.specs.IndexPage.{KeyValue, index_page};
 ghost use Rattle.pages.specs.Markup.{markup, item_form, has_description_at, suite_form, lack_count};
 ghost use Rattle.pages.specs.SuitePage.{shown, suite_page};

@@ -2,7 +2,7 @@
 
 ghost use Rattle.std.specs.Prelude.{◌≡◌, ◌++◌, IfOk, OnOk, map, string_bytes};
 ghost use Rattle.std.specs.List.{flat_map};
-ghost use Rattle.pages.specs.SuitePage.{kind_word, item_cell, tenths_text, size_text, file_link, file_text, files_cell, row_start, item_row, rows, codename_at, description_at, summary, suite_page};
+ghost use Rattle.pages.specs.SuitePage.{kind_word, item_cell, tenths_text, size_text, file_link, file_text, files_cell, row_start, item_row, rows, description_at, summary, suite_page};
 
 use crate::escape::{push_markup, push_text};
 use crate::frame::{push_filter, push_foot, push_head};
@@ -13,7 +13,7 @@ use crate::synopsis::push_synopsis;
 use crate::table::{TABLE_END, push_cell, push_name_cell};
 use rules::Config;
 use std::alloc::{AllocError, Global};
-use suites::{Item, Kind, PoolFile, Shelves};
+use suites::{Item, Kind, PoolFile, Shelves, codename_at};
 use texts::file_name;
 
 /// The links of the page.
@@ -164,17 +164,6 @@ fn push_rows(
     push_items(alloc, items.as_slice(), out)
 }
 
-/// The codename of the suite at a position, or an empty text if there is no suite.
-#[tactic(auto, unfolding(crate::specs::SuitePage::codename_at))]
-fn codename(config: &Config, suite: usize) -> &str
-    ensures { result.now ≡ codename_at config.now suite }
-{
-    match config.suites().get(suite) {
-        Some(suite) => suite.codename.as_str(),
-        None => "",
-    }
-}
-
 /// Appends what the suite at a position is for, if there is such a suite and the configuration says it.
 #[tactic(auto, unfolding(crate::specs::SuitePage::description_at))]
 fn push_description_at(config: &Config, suite: usize, out: &mut String) -> Result<(), AllocError>
@@ -217,7 +206,12 @@ pub fn suite_page(
     ensures { IfOk result (λ page. string_bytes page ≡ suite_page config.now shelves.now suite) }
 {
     let mut page = String::new(alloc);
-    push_head(config, codename(config, suite), LINKS, &mut page)?;
+    push_head(
+        config,
+        codename_at(config.suites(), suite),
+        LINKS,
+        &mut page,
+    )?;
     push_summary(alloc, config, shelves, suite, &mut page)?;
     push_markup(FILTER_FIELD, &mut page)?;
     push_markup(TABLE_HEAD, &mut page)?;

@@ -1,26 +1,13 @@
 //! What an item is, in one line.
 
-ghost use Rattle.std.specs.Prelude.{◌≡◌, ◌++◌, [], IfOk, MatchOption, OnOk, string_bytes};
+ghost use Rattle.std.specs.Prelude.{◌≡◌, ◌++◌, OnOk, string_bytes};
 ghost use Rattle.para.specs.Field.{field_value};
-ghost use Rattle.texts.specs.Stanzas.{fields_of_text};
 ghost use Rattle.pages.specs.SuitePage.{known_line, first_line, synopsis};
 
 use crate::escape::{push_markup, push_text};
-use para::{Field, ParaFault, Paragraph, read_one};
-use records::MOST_DSC;
+use para::{Field, Paragraph};
 use std::alloc::{AllocError, Global};
-
-/// The paragraph that the text of an item spells; `None` if it does not spell one, or is longer than a .dsc may be.
-#[tactic(auto, unfolding(texts::specs::Stanzas::fields_of_text))]
-fn spelled_in<'a>(alloc: Global, text: &'a str) -> Result<Option<Paragraph<'a>>, AllocError>
-    ensures { IfOk result (λ found. MatchOption found (fields_of_text text.now ≡ []) (λ paragraph. fields_of_text text.now ≡ paragraph)) }
-{
-    match read_one(alloc, text.as_bytes(), MOST_DSC) {
-        Ok(paragraph) => Ok(Some(paragraph)),
-        Err(ParaFault::OutOfMemory) => Err(AllocError),
-        Err(_) => Ok(None),
-    }
-}
+use texts::paragraph_in;
 
 /// Appends the first line of a field.
 #[tactic(auto, unfolding(crate::specs::SuitePage::known_line))]
@@ -48,7 +35,7 @@ fn push_first_line(paragraph: &Paragraph<'_>, out: &mut String) -> Result<(), Al
 pub fn push_synopsis(alloc: Global, text: &str, out: &mut String) -> Result<(), AllocError>
     ensures { OnOk result (string_bytes out.new ≡ string_bytes out.old ++ synopsis text.now) }
 {
-    match spelled_in(alloc, text)? {
+    match paragraph_in(alloc, text)? {
         Some(paragraph) => push_first_line(&paragraph, out),
         None => Ok(()),
     }

@@ -9,7 +9,7 @@ use crate::frame::{push_foot, push_head};
 use crate::site::{Site, first_rows, last_rows, push_more, push_upload_name};
 use crate::table::{TABLE_END, push_constant_cell};
 use crate::verdict::{meaning, tag, verdict_word};
-use keep::{Judgement, Lack, Waiting};
+use book::{Judgement, Lack, Waiting};
 use rules::{Config, Verdict};
 use std::alloc::{AllocError, Global};
 

@@ -1,12 +1,12 @@
 -- What is said of what was read of a book.
-use Rattle.std.proofs.Common.{◌≡◌, ◌⊎◌, ℕ, Bool, true, false, ◌||◌, if◌then◌else◌, List, [], ◌++◌, Option, Some, None, Result, Ok, inl, inr, refl, sym, ap, ◌∙◌}
+use Rattle.std.proofs.Common.{◌≡◌, ◌⊎◌, ℕ, Bool, true, false, ◌||◌, if◌then◌else◌, List, [], ◌++◌, Option, Some, None, Result, Ok, inl, inr, sym, ap, ◌∙◌}
 use Rattle.std.specs.List.{list_any}
-use Rattle.keep.specs.Book.{Book, waiting_list}
-use Rattle.keep.specs.declared.arrival.Counting.{Counting}
-use Rattle.keep.specs.declared.arrived.ArrivedFile.{ArrivedFile}
-use Rattle.keep.specs.declared.change.Waiting.{Waiting}
+use Rattle.book.specs.Book.{Book, waiting_list, arrived_in}
+use Rattle.book.specs.declared.arrival.Counting.{Counting}
+use Rattle.book.specs.declared.arrived.ArrivedFile.{ArrivedFile}
+use Rattle.book.specs.declared.change.Waiting.{Waiting}
 use Rattle.telling.specs.Course.{IsCourse}
-use Rattle.telling.specs.Why.{arrived, counting_at, is_asked, is_known, is_named, judged_told, waits_texts, waits_told, why_told}
+use Rattle.telling.specs.Why.{counting_at, is_asked, is_known, is_named, judged_told, waits_texts, waits_told, why_told}
 use Rattle.telling.specs.declared.fault.TellFault.{TellFault}
 use Rattle.telling.specs.declared.why.Course.{Course}
 
@@ -16,15 +16,15 @@ told_as a b e = ap {B = Result (Option (List ℕ)) TellFault} (λ (o : Option (L
 
 module _ (moment : ℕ) (book : Book) (wanted : Option (List ℕ)) (is_json : Bool) (course : Course) (is : IsCourse moment book course) where
   -- what waits is said by what was read of the book
-  course_told : (course.waiting.items ≡ []) ⊎ (course.arrived.items ≡ arrived book)
+  course_told : (course.waiting.items ≡ []) ⊎ (course.arrived.items ≡ arrived_in book)
       → waits_texts course.counting course.arrived.items wanted is_json course.waiting.items ≡ waits_told moment book wanted is_json
   course_told (inl none) =
       ap (λ (ws : List Waiting). waits_texts course.counting course.arrived.items wanted is_json ws) none
-      ∙ ap (λ (ws : List Waiting). waits_texts (counting_at moment book) (arrived book) wanted is_json ws) (sym none ∙ is.waiting)
+      ∙ ap (λ (ws : List Waiting). waits_texts (counting_at moment book) (arrived_in book) wanted is_json ws) (sym none ∙ is.waiting)
   course_told (inr files) =
       ap (λ (c : Counting). waits_texts c course.arrived.items wanted is_json course.waiting.items) is.counting
       ∙ ap (λ (fs : List ArrivedFile). waits_texts (counting_at moment book) fs wanted is_json course.waiting.items) files
-      ∙ ap (λ (ws : List Waiting). waits_texts (counting_at moment book) (arrived book) wanted is_json ws) is.waiting
+      ∙ ap (λ (ws : List Waiting). waits_texts (counting_at moment book) (arrived_in book) wanted is_json ws) is.waiting
 
   module _ (start out : List ℕ) (empty : start ≡ []) (said : out ≡ start ++ waits_texts course.counting course.arrived.items wanted is_json course.waiting.items) where
     waits_said : out ≡ waits_told moment book wanted is_json
@@ -69,13 +69,5 @@ module _ (moment : ℕ) (book : Book) (wanted : Option (List ℕ)) (is_json : Bo
       unfolding why_told
       why_of_none known = ap said_if (sym known ∙ known_is) ∙ ap (λ (n : Option (List ℕ)). why_told moment book n is_json) (sym named)
 
--- one of two, or neither
-pub by_second : (a b : Bool) → b ≡ true → (a || b) ≡ true
-by_second true b h = refl
-by_second false b h = h
-
 pub by_first : (a b : Bool) → a ≡ true → (a || b) ≡ true
 by_first a b h = ap (λ (x : Bool). x || b) h
-
-pub by_none : (a b : Bool) → a ≡ false → b ≡ false → (a || b) ≡ false
-by_none a b h k = ap (λ (x : Bool). x || b) h ∙ k

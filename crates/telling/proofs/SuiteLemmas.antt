@@ -10,17 +10,12 @@ use Rattle.std.specs.List.{AllByRecursion, flat_map, range_with_len}
 use Rattle.std.specs.Ordering.{is_le, is_lt, nat_cmp, ordering_then}
 use Rattle.std.specs.declared.cmp.Ordering.{Ordering}
 use Rattle.std.specs.declared.cmp.Ordering.TheVariants.{Less, Equal, Greater}
+use Rattle.std.proofs.lemmas.Bool.{eqb-true, ne_eqb}
 use Rattle.suites.proofs.EntryLemmas.{and_left, and_right}
 use Rattle.suites.specs.Keys.{key_order}
 use Rattle.suites.specs.Shelves.{ShelvesValue}
 use Rattle.suites.specs.declared.item.Item.{Item}
 use Rattle.suites.specs.declared.key.ShelfKey.{ShelfKey}
-
-same_number : (a b : ℕ) → nat_eq a b ≡ true → a ≡ b
-same_number a b e = grind (arith, nat_tests)
-
-other_number : (a b : ℕ) → a < b → nat_eq a b ≡ false
-other_number a b h = grind (arith, nat_tests)
 
 unequal : (a b : ℕ) → a ≤ b → nat_eq b a ≡ false → a + 1 ≤ b
 unequal a b h e = grind (arith, nat_tests)
@@ -47,7 +42,7 @@ module _ {E : Type 0} (number : E → ℕ) where
   none a m (x ∷ xs) h all = by_case (nat_eq (number x) a) refl (none a m xs h all.1)
     where
       by_case : (b : Bool) → nat_eq (number x) a ≡ b → of a xs ≡ [] → cond b (x ∷ of a xs) (of a xs) ≡ []
-      by_case true e rest = let same = same_number (number x) a e in let least = all.0 in absurd (omega arith)
+      by_case true e rest = let same = eqb-true (number x) a e in let least = all.0 in absurd (omega arith)
       by_case false e rest = rest
 
   -- one of another number
@@ -58,7 +53,7 @@ module _ {E : Type 0} (number : E → ℕ) where
   past : (x : E) (a n : ℕ) (xs : List E) → number x < a → groups a n (x ∷ xs) ≡ groups a n xs
   past x a zero xs h = refl
   past x a (suc n) xs h =
-      (λ i. other x a xs (other_number (number x) a h) i ++ groups (a + 1) n (x ∷ xs))
+      (λ i. other x a xs (ne_eqb (number x) a (λ e. omega (arith, e, h))) i ++ groups (a + 1) n (x ∷ xs))
       ∙ ap (λ ys. of a xs ++ ys) (past x (a + 1) n xs (omega arith))
 
   -- the first of those whose numbers do not fall
@@ -69,7 +64,7 @@ module _ {E : Type 0} (number : E → ℕ) where
     where
       by_case : (b : Bool) → nat_eq (number x) a ≡ b → (a + 1 ≤ number x → groups (a + 1) n (x ∷ xs) ≡ x ∷ groups (a + 1) n xs)
           → cond b (x ∷ of a xs) (of a xs) ++ groups (a + 1) n (x ∷ xs) ≡ x ∷ (of a xs ++ groups (a + 1) n xs)
-      by_case true e later = let same = same_number (number x) a e in ap (λ ys. x ∷ (of a xs ++ ys)) (past x (a + 1) n xs (omega arith))
+      by_case true e later = let same = eqb-true (number x) a e in ap (λ ys. x ∷ (of a xs ++ ys)) (past x (a + 1) n xs (omega arith))
       by_case false e later =
           let higher = unequal a (number x) above e in
           let nothing = none a (number x) xs (omega arith) all in
@@ -95,7 +90,7 @@ module _ {E : Type 0} (number : E → ℕ) where
         by_case : (b : Bool) → nat_eq (number x) s ≡ b → map f (of s xs) ≡ map (g s) (of s xs)
             → map f (cond b (x ∷ of s xs) (of s xs)) ≡ map (g s) (cond b (x ∷ of s xs) (of s xs))
         by_case true e rest =
-            let this : f x ≡ g s x = is x ∙ ap (λ k. g k x) (same_number (number x) s e) in
+            let this : f x ≡ g s x = is x ∙ ap (λ k. g k x) (eqb-true (number x) s e) in
             λ i. this i ∷ rest i
         by_case false e rest = rest
 

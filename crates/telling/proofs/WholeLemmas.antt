@@ -8,10 +8,10 @@ use Rattle.para.specs.Bytes.{is_nil}
 use Rattle.sums.specs.declared.entries.Entry.{Entry}
 use Rattle.suites.proofs.ListTests.{filter-map}
 use Rattle.suites.specs.Keys.{text_order}
-use Rattle.keep.specs.Book.{Book, Candidate, at_moment, by_name, due, is_complete, is_there, lack_of, lacks_of, put_by_name, unjudged, waiting_list, waiting_of}
-use Rattle.keep.specs.Keeping.{sign_of}
-use Rattle.keep.specs.declared.arrival.Arrival.{Arrival}
-use Rattle.keep.specs.declared.change.Lack.{Lack}
+use Rattle.book.specs.Book.{Book, Candidate, at_moment, by_name, due, is_complete, is_there, lack_of, lacks_of, put_by_name, unjudged, waiting_list, waiting_of}
+use Rattle.book.specs.Keeping.{sign_of}
+use Rattle.book.specs.declared.arrival.Arrival.{Arrival}
+use Rattle.book.specs.declared.change.Lack.{Lack}
 use Rattle.telling.specs.Whole.{is_whole, sign_of_waiting}
 
 and_swap : (a b c : Bool) → (a && (b && c)) ≡ (b && (a && c))

@@ -9,10 +9,10 @@ use Rattle.serde_json.specs.Written.{compact_text}
 use Rattle.rules.specs.Suites.{suite_named}
 use Rattle.rules.specs.Values.{ConfigValue}
 use Rattle.suites.specs.Shelves.{ShelvesValue}
-use Rattle.keep.specs.Book.{Book, latest, waiting_list}
-use Rattle.keep.specs.Keeping.{Apart, MayAnswer}
-use Rattle.keep.specs.declared.change.Judgement.{Judgement}
-use Rattle.keep.specs.declared.change.Waiting.{Waiting as WaitingUpload}
+use Rattle.book.specs.Book.{Book, latest, waiting_list}
+use Rattle.book.specs.Keeping.{Apart, MayAnswer}
+use Rattle.book.specs.declared.change.Judgement.{Judgement}
+use Rattle.book.specs.declared.change.Waiting.{Waiting as WaitingUpload}
 use Rattle.output.specs.Json.{json_in, json_on, judgement_data, waiting_data}
 use Rattle.output.specs.Listing.{line_in, line_on, shown_in}
 use Rattle.figures.specs.Families.{families}

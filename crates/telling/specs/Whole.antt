@@ -2,7 +2,7 @@
 use Rattle.std.specs.Prelude.{ℕ, Bool, List}
 use Rattle.para.specs.Bytes.{is_nil}
 use Rattle.sums.specs.declared.print.Print.{Print}
-use Rattle.keep.specs.declared.change.Waiting.{Waiting}
+use Rattle.book.specs.declared.change.Waiting.{Waiting}
 
 -- nothing lacks, of which `why` has the line `whole`
 abbrev pub is_whole : Waiting → Bool

@@ -11,11 +11,11 @@ use Rattle.suites.specs.Shelves.{ShelvesValue}
 use Rattle.suites.specs.Upload.{UploadValue}
 use Rattle.inquiry.specs.Instead.{came_for}
 use Rattle.inquiry.specs.Reading.{kept_upload}
-use Rattle.keep.specs.Book.{Book, arrived_file, span, waiting_list}
-use Rattle.keep.specs.declared.arrival.Counting.{Counting}
-use Rattle.keep.specs.declared.arrived.ArrivedFile.{ArrivedFile}
-use Rattle.keep.specs.declared.change.Judgement.{Judgement}
-use Rattle.keep.specs.declared.change.Waiting.{Waiting}
+use Rattle.book.specs.Book.{Book, span, waiting_list, arrived_in}
+use Rattle.book.specs.declared.arrival.Counting.{Counting}
+use Rattle.book.specs.declared.arrived.ArrivedFile.{ArrivedFile}
+use Rattle.book.specs.declared.change.Judgement.{Judgement}
+use Rattle.book.specs.declared.change.Waiting.{Waiting}
 use Rattle.output.specs.Explaining.Judged.{judged_data, judged_lines}
 use Rattle.output.specs.Explaining.Waits.{since, waits_data, waits_lines}
 
@@ -34,10 +34,6 @@ shown_line line = shown_text line ++ 10 ∷ []
 -- lines as they are shown
 abbrev pub shown_lines : List (List ℕ) → List ℕ
 shown_lines lines = flat_map shown_line lines
-
--- what arrived, without its bytes
-abbrev pub arrived : Book → List ArrivedFile
-arrived book = map arrived_file book.arrivals
 
 -- what counts at a moment
 abbrev pub counting_at : ℕ → Book → Counting
@@ -79,7 +75,7 @@ judged_texts book shelves name is_json js = flat_map (judged_text book shelves i
 
 -- what is said at a moment of the uploads that wait, of a name or of all
 abbrev pub waits_told : ℕ → Book → Option (List ℕ) → (is_json : Bool) → List ℕ
-waits_told moment book name is_json = waits_texts (counting_at moment book) (arrived book) name is_json (waiting_list moment book)
+waits_told moment book name is_json = waits_texts (counting_at moment book) (arrived_in book) name is_json (waiting_list moment book)
 
 -- what is said of the uploads of a name that were judged
 abbrev pub judged_told : Book → List ℕ → (is_json : Bool) → List ℕ

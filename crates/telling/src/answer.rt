@@ -2,8 +2,8 @@
 
 ghost use Rattle.std.specs.Prelude.{◌≡◌, ◌⊎◌, ◌≤◌, IfErr, IfOk, None, Ok, Some};
 ghost use Rattle.std.specs.Option.{option_map};
-ghost use Rattle.keep.specs.Book.{latest, waiting_list};
-ghost use Rattle.keep.specs.Keeping.{Apart, Reads};
+ghost use Rattle.book.specs.Book.{latest, waiting_list};
+ghost use Rattle.book.specs.Keeping.{Apart, Reads};
 ghost use Rattle.rules.specs.Suites.{suite_named};
 ghost use Rattle.telling.specs.Told.{IsTold, MayRefuse, all_told, bytes_of, configuration, question_of, shown_told, suite_told, verdicts_told, waiting_told};
 ghost use Rattle.telling.specs.declared.fault.TellFault.TheVariants.{UnknownSuite};
@@ -14,7 +14,7 @@ use crate::lines::joined;
 use crate::page::tell_page;
 use crate::question::Question;
 use crate::why::tell_why;
-use keep::{Judgement, Keeper, LATEST, Waiting};
+use book::{Judgement, Keeper, LATEST, Waiting};
 use output::listing::{all_json, all_lines, shown_json, shown_lines, verdict_json, waiting_json};
 use rules::Config;
 use std::alloc::{AllocError, Global};

@@ -1,10 +1,10 @@
 //! Why a question is refused.
 
 ghost use Rattle.std.specs.Prelude.{◌≡◌};
-ghost use Rattle.keep.specs.declared.fault.KeepFault.TheVariants.{OutOfMemory};
+ghost use Rattle.book.specs.declared.fault.KeepFault.TheVariants.{OutOfMemory};
 ghost use Rattle.telling.specs.declared.fault.TellFault.TheVariants.{Keeper};
 
-use keep::KeepFault;
+use book::KeepFault;
 use std::alloc::{AllocError, AllocFailed};
 
 /// Why a question is refused.

@@ -3,13 +3,13 @@
 ghost use Rattle.std.specs.Prelude.{◌≡◌, ◌≤◌, IfErr, IfOk};
 ghost use Rattle.figures.specs.Families.{families};
 ghost use Rattle.figures.specs.Printing.{metrics_text, status_text};
-ghost use Rattle.keep.specs.Book.{latest};
-ghost use Rattle.keep.specs.Keeping.{Apart, Reads};
+ghost use Rattle.book.specs.Book.{latest};
+ghost use Rattle.book.specs.Keeping.{Apart, Reads};
 ghost use Rattle.telling.specs.Told.{MayRefuse};
 
 use crate::fault::TellFault;
+use book::Keeper;
 use figures::{metrics, status};
-use keep::Keeper;
 use std::alloc::Global;
 
 /// The figures at a moment, in Prometheus' text format.

@@ -2,8 +2,8 @@
 
 ghost use Rattle.std.specs.Prelude.{◌≡◌, ◌≤◌, IfErr, IfOk, OnOk, string_bytes};
 ghost use Rattle.std.specs.Option.{option_map};
-ghost use Rattle.keep.specs.Book.{latest, waiting_list};
-ghost use Rattle.keep.specs.Keeping.{Apart, Reads};
+ghost use Rattle.book.specs.Book.{latest, waiting_list};
+ghost use Rattle.book.specs.Keeping.{Apart, Reads};
 ghost use Rattle.pages.specs.IndexPage.{index_page as index_text, key_value};
 ghost use Rattle.pages.specs.UploadsPage.{uploads_page as uploads_text};
 ghost use Rattle.pages.specs.declared.site.Site.TheVariants.{Served};
@@ -12,7 +12,7 @@ ghost use Rattle.telling.specs.Told.{IsOf, MayRefuse, bytes_of, key_named, page_
 
 use crate::fault::TellFault;
 use crate::question::Page;
-use keep::Keeper;
+use book::Keeper;
 use pages::{Key, Site, index_page, suite_page, uploads_page};
 use std::alloc::{AllocError, Global};
 use suites::Shelves;

@@ -11,18 +11,18 @@ ghost use Rattle.suites.specs.Shelves.{ShelvesValue};
 ghost use Rattle.suites.specs.Upload.{UploadValue};
 ghost use Rattle.inquiry.specs.Named.{IsByName, moment_in};
 ghost use Rattle.inquiry.specs.Reading.{kept_upload};
-ghost use Rattle.keep.specs.Book.{latest};
-ghost use Rattle.keep.specs.Keeping.{Apart, MayAnswer, Reads};
-ghost use Rattle.keep.specs.declared.arrived.ArrivedFile.{ArrivedFile as FileValue};
+ghost use Rattle.book.specs.Book.{latest, arrived_in};
+ghost use Rattle.book.specs.Keeping.{Apart, MayAnswer, Reads};
+ghost use Rattle.book.specs.declared.arrived.ArrivedFile.{ArrivedFile as FileValue};
 ghost use Rattle.output.specs.Explaining.Judged.{IsAnswerOf};
 ghost use Rattle.telling.specs.Course.{IsCourse};
 ghost use Rattle.telling.specs.Told.{IsOf, MayRefuse, bytes_of, explained};
-ghost use Rattle.telling.specs.Why.{answer_text, arrived, is_asked, is_named, judged_text, judged_texts, judged_told, waits_text, waits_texts, waits_with};
+ghost use Rattle.telling.specs.Why.{answer_text, is_asked, is_named, judged_text, judged_texts, judged_told, waits_text, waits_texts, waits_with};
 
 use crate::fault::TellFault;
 use crate::lines::{push_all_shown, push_shown};
-use inquiry::{Delivered, by_name, came_instead, deliveries_of, read_upload};
-use keep::{ArrivedFile, Counting, Judgement, KeepFault, Keeper, Waiting};
+use book::{ArrivedFile, Counting, Judgement, KeepFault, Keeper, Waiting, group_of};
+use inquiry::{Delivered, by_name, came_instead, read_upload};
 use output::explaining::{Answer, answer_json, answer_lines, waiting_json, waiting_lines};
 use para::Listed;
 use std::alloc::{AllocError, Global};
@@ -56,7 +56,7 @@ fn arrived_for<K: Keeper>(
 ) -> Result<Vec<ArrivedFile>, KeepFault>
     ensures reads { Reads K.is_clean K.is_open K.faults K.book K.may_leave keeper.old keeper.new }
     ensures served { K.is_clean keeper.new → K.is_open keeper.old → OnOk result (K.is_open keeper.new) }
-    ensures arrived { K.is_clean keeper.new → IfOk result (λ files. (waiting.now ≡ []) ⊎ (files.items ≡ arrived (K.book keeper.old))) }
+    ensures arrived { K.is_clean keeper.new → IfOk result (λ files. (waiting.now ≡ []) ⊎ (files.items ≡ arrived_in (K.book keeper.old))) }
     ensures cause { IfErr result (MayAnswer K.may_fail) }
 {
     if waiting.is_empty() {
@@ -128,7 +128,7 @@ fn push_waiting(
     ensures { OnOk result ((files : List FileValue) → IsByName files named.now → out.new.items ≡ out.old.items ++ waits_text counting files is_json upload.now) }
 {
     let came = came_instead(alloc, named, counting, upload.lacks.as_slice())?;
-    let since = since_of(deliveries_of(named, upload.name.as_str()), upload);
+    let since = since_of(group_of(named, upload.name.as_str()), upload);
     push_waiting_with(alloc, upload, since, &came, is_json, out)
 }
 
@@ -222,7 +222,7 @@ fn push_judged<K: Keeper>(
 }
 
 /// Appends why each judged upload of a name has its verdict.
-#[tactic(auto, using(keep::proofs::ReadLemmas::reads_none, keep::proofs::ReadLemmas::reads_more))]
+#[tactic(auto, using(book::proofs::ReadLemmas::reads_none, book::proofs::ReadLemmas::reads_more))]
 fn push_all_judged<K: Keeper>(
     alloc: Global,
     keeper: &mut K,
@@ -260,7 +260,7 @@ fn has_judged(judged: &[Judgement], name: &str) -> bool
 
 /// Appends why each judged upload of a name has its verdict, and says whether there is one. If there is none, what the suites show is not
 /// read.
-#[tactic(auto, using(keep::proofs::ReadLemmas::reads_none, keep::proofs::ReadLemmas::reads_more))]
+#[tactic(auto, using(book::proofs::ReadLemmas::reads_none, book::proofs::ReadLemmas::reads_more))]
 fn push_verdicts<K: Keeper>(
     alloc: Global,
     keeper: &mut K,
@@ -285,7 +285,7 @@ fn push_verdicts<K: Keeper>(
 
 /// Why the uploads of a name have their verdicts, and what those that wait lack; without a name, what each waiting upload lacks. There is
 /// no text if no upload has the name.
-#[tactic(auto, using(keep::proofs::ReadLemmas::reads_none, keep::proofs::ReadLemmas::reads_more))]
+#[tactic(auto, using(book::proofs::ReadLemmas::reads_none, book::proofs::ReadLemmas::reads_more))]
 pub fn tell_why<K: Keeper>(
     alloc: Global,
     keeper: &mut K,

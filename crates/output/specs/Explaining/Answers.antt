@@ -2,7 +2,7 @@
 use Rattle.std.specs.Prelude.{ℕ, Bool, true, false, if◌then◌else◌, List, [], ◌∷◌, ◌++◌, map, codes, string_bytes, Option, Some, None, option_to_list, unwrap_or}
 use Rattle.serde_json.specs.Data.{Data}
 use Rattle.rules.specs.declared.verdict.Verdict.{Verdict}
-use Rattle.keep.specs.declared.change.Judgement.{Judgement}
+use Rattle.book.specs.declared.change.Judgement.{Judgement}
 use Rattle.output.specs.Explaining.Judged.{judged_object, number_if, today_lines}
 use Rattle.output.specs.Explaining.Sentences.{is_accepted, meaning, remedy, verdict_words}
 use Rattle.output.specs.Explaining.Words.{upload_words}

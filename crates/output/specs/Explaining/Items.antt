@@ -15,7 +15,7 @@ use Rattle.suites.specs.Shelves.{ShelvesValue}
 use Rattle.suites.specs.Upload.{Part, UploadValue, binary_item, items_of, source_item}
 use Rattle.suites.specs.declared.item.Item.{Item}
 use Rattle.suites.specs.declared.key.ShelfKey.{ShelfKey}
-use Rattle.output.specs.Listing.{codename_at}
+use Rattle.suites.specs.Codenames.{codename_at}
 use Rattle.output.specs.Explaining.Words.{spaced}
 
 -- the print of an item's .dsc or package file, which is its first file
@@ -53,7 +53,7 @@ given_items u = map item_of (items_of (λ e. e.print) u (component u.changes))
 -- a line for each, the source first; none if no suite takes the upload
 unfoldable pub item_lines : ConfigValue → ShelvesValue → UploadValue → List (List ℕ)
 item_lines config shelves u =
-    option_map_or (λ suite. map (item_line shelves suite (codename_at config suite)) (given_items u)) (claiming u.changes.distribution config.suites) []
+    option_map_or (λ suite. map (item_line shelves suite (codename_at config.suites suite)) (given_items u)) (claiming u.changes.distribution config.suites) []
 
 -- the line of the source that a listed file is, if its text is a .dsc
 abbrev pub source_lines : ShelvesValue → ℕ → (codename : List ℕ) → ChangesValue → Part → List (List ℕ)

@@ -11,7 +11,7 @@ use Rattle.rules.specs.declared.verdict.Verdict.{Verdict}
 use Rattle.suites.specs.Shelves.{ShelvesValue}
 use Rattle.suites.specs.Upload.{UploadValue}
 use Rattle.suites.specs.Verdict.{verdict_on}
-use Rattle.keep.specs.declared.change.Judgement.{Judgement}
+use Rattle.book.specs.declared.change.Judgement.{Judgement}
 use Rattle.reasons.specs.Reasons.{named_by}
 use Rattle.output.specs.Explaining.About.{named_lines}
 use Rattle.output.specs.Explaining.Items.{item_lines}

@@ -5,6 +5,7 @@ use crate::checking::places::{name_of, numbered, paragraphs_of};
 use para::{Paragraph, Text, read_many};
 use rules::{Config, Days, MOST_CONFIG, Rule, SourcePattern, Suite};
 use std::alloc::{AllocError, Global};
+use suites::codename_at;
 
 /// How many seconds a day has.
 const DAY: u64 = 86_400;
@@ -183,14 +184,6 @@ fn push_unwritable(
     Ok(())
 }
 
-/// The codename of the suite at a position, or the empty text if there is no suite.
-fn codename_at(config: &Config, position: usize) -> &str {
-    match config.suites().get(position) {
-        Some(suite) => suite.codename.as_str(),
-        None => "",
-    }
-}
-
 /// `passed over NAME in PLACE`, followed by `, did you mean KNOWN` if a known name is near.
 fn passed_line(alloc: Global, name: &str, place: &str) -> Result<String, AllocError> {
     match likely_name(alloc, name)? {
@@ -256,7 +249,7 @@ pub fn check_lines(
         push_unwritable(alloc, &mut lines, suite)?;
     }
     for (position, name) in passed_over {
-        let codename = codename_at(config, *position);
+        let codename = codename_at(config.suites(), *position);
         lines.push(passed_line(alloc, name.as_str(), codename)?)?;
     }
     Ok(lines)

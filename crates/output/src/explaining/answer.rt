@@ -20,7 +20,7 @@ use crate::explaining::members::{digest_value, no_values, text_value};
 use crate::explaining::names::named_lines;
 use crate::explaining::sentences::{meaning, remedy};
 use crate::explaining::words::upload_line;
-use keep::Judgement;
+use book::Judgement;
 use reasons::{Reason, reason_of};
 use rules::{Config, Verdict};
 use serde_json::{Map, Value, json, put};

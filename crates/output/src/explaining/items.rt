@@ -1,18 +1,18 @@
 //! The items that an accepted upload gave its suite, as lines.
 
-ghost use Rattle.std.specs.Prelude.{◌≡◌, ◌&&◌, ◌++◌, IfOk, OnOk, bytes_eq, codes, map, option_copied, option_map, slice_get, string_bytes};
+ghost use Rattle.std.specs.Prelude.{◌≡◌, ◌++◌, IfOk, OnOk, map, option_copied, option_map, slice_get, string_bytes};
 ghost use Rattle.std.specs.FinMap.{get};
 ghost use Rattle.std.specs.List.{flat_map};
-ghost use Rattle.suites.specs.Upload.{dsc_parts, has_suffix as ends_in, package_file as file_of_package, sidecar_parts, stem as stem_of};
+ghost use Rattle.suites.specs.Upload.{dsc_parts, package_file as file_of_package, sidecar_parts};
 ghost use Rattle.output.specs.Explaining.Items.{are_one, first_print, is_of, item_line, item_lines, given_items, line_at, package_lines, source_lines, state_words};
 
-use crate::listing::codename_at;
 use para::Text;
 use records::Changes;
 use rules::Config;
 use std::alloc::{AllocError, Global};
 use suites::{
-    Item, Kind, PoolFile, ShelfKey, Shelves, Upload, dsc_within, has_suffix, sidecar_in, stem,
+    Item, Kind, PoolFile, ShelfKey, Shelves, Upload, codename_at, dsc_within, package_file,
+    sidecar_in,
 };
 use sums::{Entry, GREATEST_SIZE, Print};
 use vers::Version;
@@ -124,24 +124,6 @@ fn push_source(
     Ok(())
 }
 
-/// Whether a name is this front and then `.deb`.
-fn is_package_of(name: &str, front: &[u8]) -> bool
-    ensures { result ≡ (ends_in (codes ".deb") name.now && bytes_eq front.now (stem_of (codes ".deb") name.now)) }
-{
-    has_suffix(name, ".deb") && front == stem(name, ".deb")
-}
-
-/// The package file of a sidecar: the listed file of the same stem that ends in `.deb`.
-#[tactic(auto, unfolding(suites::specs::Upload::package_file))]
-fn package_file<'a>(entries: &'a [Entry], sidecar: &str) -> Option<&'a Entry>
-    ensures { option_copied result ≡ file_of_package entries.now sidecar.now }
-{
-    let front = stem(sidecar, ".control");
-    entries
-        .iter()
-        .find(|entry| is_package_of(entry.name.as_str(), front))
-}
-
 /// The print of the package file of a sidecar, if it is listed.
 fn package_print(entries: &[Entry], sidecar: &str) -> Option<Print>
     ensures { result ≡ option_map (λ e. e.print) (file_of_package entries.now sidecar.now) }
@@ -240,7 +222,7 @@ pub fn item_lines(
     };
     let place = SuiteView {
         suite,
-        codename: codename_at(config, suite),
+        codename: codename_at(config.suites(), suite),
         shelves,
     };
     lines_in(alloc, &place, upload)

@@ -14,27 +14,17 @@ ghost use Rattle.std.specs.Prelude.{◌≡◌, if◌then◌else◌, ◌++◌, �
 ghost use Rattle.std.specs.List.{flat_map};
 ghost use Rattle.std.specs.Option.{option_map_or};
 ghost use Rattle.records.specs.Fault.{fault_text};
-ghost use Rattle.rules.specs.Judgement.{suite_of};
 ghost use Rattle.rules.specs.Suites.{fits_source};
 ghost use Rattle.output.specs.Explaining.About.{component_words, dsc_words, file_lines, named_lines, not_words, rule_lines, rule_words, sidecar_words, suite_words, taken, taken_by, there_words, unlisted_words, without};
 ghost use Rattle.output.specs.Explaining.Words.{file_words, spaced};
 
 use crate::explaining::words::{file_line, print_text, worded};
 use para::Text;
-use reasons::{DscDifference, Named, SidecarDifference};
+use reasons::{DscDifference, Named, SidecarDifference, suite_of};
 use records::{Changes, RecordFault};
 use rules::{Config, Rule, SourcePattern, Suite};
 use std::alloc::{AllocError, Global};
 use sums::Print;
-
-/// The suite that takes an upload.
-#[tactic(auto, unfolding(rules::specs::Judgement::suite_of))]
-fn suite_of<'c>(config: &'c Config, changes: &Changes) -> Option<&'c Suite>
-    ensures { option_copied result ≡ suite_of config.now changes.now }
-{
-    let position = config.suite_for(changes.distribution())?;
-    config.suites().get(position)
-}
 
 /// Adds `taken NAME CODENAME`.
 fn push_taken(

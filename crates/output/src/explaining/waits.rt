@@ -8,7 +8,7 @@ ghost use Rattle.output.specs.Explaining.Waits.{came_items, file_data, has_ended
 
 use crate::explaining::members::{digest_value, no_values, text_value};
 use crate::explaining::words::{file_line, upload_line};
-use keep::{LATEST, Lack, Waiting};
+use book::{LATEST, Lack, Waiting};
 use para::Listed;
 use serde_json::{Map, Value, json, put};
 use std::alloc::{AllocError, Global};

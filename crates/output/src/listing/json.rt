@@ -8,12 +8,11 @@ ghost use Rattle.std.specs.FinMap.{entries};
 ghost use Rattle.output.specs.Json.{file_data, item_data, json_in, json_on, judgement_data, shown_data, waiting_data};
 ghost use Rattle.output.specs.Listing.{shown_in};
 
-use crate::listing::shown::codename_at;
-use keep::{Judgement, Waiting};
+use book::{Judgement, Waiting};
 use rules::Config;
 use serde_json::{Value, json};
 use std::alloc::{AllocError, Global};
-use suites::{Item, PoolFile, Shelves};
+use suites::{Item, PoolFile, Shelves, codename_at};
 
 /// The path, the size and the SHA-256 of a file of the pool.
 fn file_value(alloc: Global, file: &PoolFile) -> Result<Value, AllocError>
@@ -125,7 +124,7 @@ pub fn all_json(
 {
     let mut lines = Vec::new(alloc);
     for (key, item) in shelves.items() {
-        lines.push(json_in(alloc, codename_at(config, key.suite), item)?)?;
+        lines.push(json_in(alloc, codename_at(config.suites(), key.suite), item)?)?;
     }
     Ok(lines)
 }

@@ -2,11 +2,11 @@
 
 ghost use Rattle.std.specs.Prelude.{◌≡◌, ◌++◌, ◌∷◌, [], cond, IfOk, map, string_bytes};
 ghost use Rattle.std.specs.FinMap.{entries};
-ghost use Rattle.output.specs.Listing.{before, codename_at, line_in, line_of, line_on, shown_in};
+ghost use Rattle.output.specs.Listing.{before, line_in, line_of, line_on, shown_in};
 
 use rules::Config;
 use std::alloc::{AllocError, Global};
-use suites::{Item, Shelves};
+use suites::{Item, Shelves, codename_at};
 
 /// The line of an item: its package, version, architecture, component and source, with one space between each two.
 fn line_of(alloc: Global, item: &Item) -> Result<String, AllocError>
@@ -50,17 +50,6 @@ pub fn shown_lines(
     Ok(lines)
 }
 
-/// The codename of the suite at a position in the configuration, or an empty text if there is no suite.
-#[tactic(auto, unfolding(crate::specs::Listing::codename_at))]
-pub fn codename_at(config: &Config, suite: usize) -> &str
-    ensures { result.now ≡ codename_at config.now suite }
-{
-    match config.suites().get(suite) {
-        Some(suite) => suite.codename.as_str(),
-        None => "",
-    }
-}
-
 /// The line of an item, after the codename of the suite that shows it.
 fn line_in(alloc: Global, codename: &str, item: &Item) -> Result<String, AllocError>
     ensures { IfOk result (λ line. string_bytes line ≡ before codename.now (line_of item.now)) }
@@ -80,7 +69,7 @@ pub fn all_lines(
 {
     let mut lines = Vec::new(alloc);
     for (key, item) in shelves.items() {
-        lines.push(line_in(alloc, codename_at(config, key.suite), item)?)?;
+        lines.push(line_in(alloc, codename_at(config.suites(), key.suite), item)?)?;
     }
     Ok(lines)
 }

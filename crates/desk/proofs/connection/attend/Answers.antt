@@ -1,7 +1,7 @@
 use Rattle.std.proofs.Common.{◌≡◌, ◌<◌, ◌+◌, List, [], ◌∷◌, ◌++◌, drop, take, get_or, length, sym, ap, ap₂, subst, refl, ◌∙◌, arith, length-set, set}
 use Rattle.std.proofs.lemmas.List.{drop_more, drop-set-lt, take_more, take_more_set, length-take-le}
 use Rattle.std.proofs.lemmas.Grind.{drop_more_same}
-use Rattle.keep.proofs.ReadLemmas.{lasts_itself, lasts_more, reads_none}
+use Rattle.book.proofs.ReadLemmas.{lasts_itself, lasts_more, reads_none}
 use Rattle.desk.specs.Connections.{AreServed, Visit, visit, visits}
 use Rattle.desk.proofs.ConnectionLemmas.{served_joined, served_none, served_one, visits-snoc}
 use Rattle.desk.proofs.connection.attend.Goals as goal

@@ -1,5 +1,5 @@
 use Rattle.std.proofs.Common.{◌≡◌, ◌∙◌, Ok, Err, Some, ap, sym, string_bytes}
-use Rattle.keep.proofs.ReadLemmas.{reads_more}
+use Rattle.book.proofs.ReadLemmas.{reads_more}
 use Rattle.queue.specs.Commands.{found}
 use Rattle.queue.specs.Histories.{Found, Lookup}
 use Rattle.desk.proofs.FileLemmas.{all_found, called_look_up, does_behind, fault_does, found_does}

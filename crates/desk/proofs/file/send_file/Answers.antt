@@ -1,6 +1,6 @@
 use Rattle.std.proofs.Common.{◌∙◌, Err, ap, string_bytes}
 use Rattle.std.proofs.lemmas.Result.{err_from_is_err_and}
-use Rattle.keep.specs.Pieces.{piece_value}
+use Rattle.book.specs.Pieces.{piece_value}
 use Rattle.desk.proofs.FileLemmas.{sent_cut, sent_none, sent_unflushed, sent_whole}
 use Rattle.desk.proofs.file.send_file.Goals as goal
 

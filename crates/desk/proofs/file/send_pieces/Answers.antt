@@ -2,8 +2,8 @@ use Rattle.std.proofs.Common.{◌∙◌, ◌++◌, ◌+◌, ℕ, List, subst, st
 use Rattle.std.specs.Io.KnownBytes.{Appends}
 use Rattle.std.proofs.KnownBytes.{Appends-trans}
 use Rattle.std.proofs.lemmas.Result.{err_from_is_err_and}
-use Rattle.keep.specs.Pieces.{piece_value}
-use Rattle.keep.proofs.ReadLemmas.{reads_none, reads_more}
+use Rattle.book.specs.Pieces.{piece_value}
+use Rattle.book.proofs.ReadLemmas.{reads_none, reads_more}
 use Rattle.desk.specs.Transfer.{AppendsBeginning}
 use Rattle.desk.proofs.FileLemmas.{cut_by_archive, cut_by_writer, sofar_first, sofar_front, sofar_read, sofar_same}
 use Rattle.desk.proofs.TransferLemmas.{AppendsBeginning-all, AppendsBeginning-behind}

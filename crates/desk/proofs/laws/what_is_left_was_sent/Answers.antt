@@ -1,7 +1,7 @@
 -- The request of a reader's bytes is one.
 use Rattle.std.proofs.Common.{◌≡◌, ℕ, List, [], ◌∷◌, Option, Some, sym, subst, ◌∙◌}
 use Rattle.std.specs.Prelude.{⊤}
-use Rattle.keep.specs.Book.{Book}
+use Rattle.book.specs.Book.{Book}
 use Rattle.queue.specs.Answers.{IsFaithful, answer}
 use Rattle.queue.specs.Archives.{book_of}
 use Rattle.queue.specs.Histories.{History, followed}

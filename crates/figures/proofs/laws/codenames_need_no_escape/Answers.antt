@@ -1,4 +1,4 @@
-use Rattle.texts.proofs.Paths.{config_names}
+use Rattle.indices.proofs.Paths.{config_names}
 use Rattle.figures.proofs.Plain.{Stands, names_stand}
 use Rattle.figures.proofs.laws.codenames_need_no_escape.Goals as goal
 

@@ -1,10 +1,10 @@
 use Rattle.std.proofs.Common.{◌≡◌, List, ◌∷◌, ◌++◌, ap, ◌∙◌}
-use Rattle.keep.specs.Book.{Book, waiting_list}
-use Rattle.keep.specs.declared.arrived.ArrivedFile.{ArrivedFile}
-use Rattle.keep.specs.declared.change.Judgement.{Judgement}
-use Rattle.keep.specs.declared.change.Waiting.{Waiting}
+use Rattle.book.specs.Book.{Book, waiting_list, arrived_in}
+use Rattle.book.specs.declared.arrived.ArrivedFile.{ArrivedFile}
+use Rattle.book.specs.declared.change.Judgement.{Judgement}
+use Rattle.book.specs.declared.change.Waiting.{Waiting}
 use Rattle.suites.specs.Shelves.{ShelvesValue}
-use Rattle.figures.specs.Families.{arrived_in, families, family, kept_families, lone, suites_families, uploads_families}
+use Rattle.figures.specs.Families.{families, family, kept_families, lone, suites_families, uploads_families}
 use Rattle.figures.specs.declared.family.Family.{Family}
 use Rattle.figures.specs.declared.family.Figure.TheVariants as figure
 use Rattle.figures.proofs.reading.families_of.Goals as goal

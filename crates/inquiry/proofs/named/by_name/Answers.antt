@@ -10,7 +10,7 @@ loop-file-preserved c = λ q.
     let before = take c.loop-file.file-index c.args.arrived.now in
     let more : take (c.loop-file.file-index + 1) c.args.arrived.now ≡ before ++ file ∷ [] =
     take_more c.args.arrived.now c.loop-file.file-index file c.loop-file-test.true ∙ ap (λ x. before ++ x ∷ []) (sym c.file-item.is) in
-    c.in_ok-add_delivery.ensures q
+    c.in_ok-add_to_group.ensures q
     ∙ ap (λ ds. ds ++ cond (bytes_eq c.as_str.result.now q) (delivered file ∷ []) []) (c.loop-file.invariant q)
     ∙ ap (λ name. deliveries_of q before ++ cond (bytes_eq name q) (delivered file ∷ []) []) c.as_str.ensures
     ∙ deliveries-push q before file

@@ -1,6 +1,6 @@
 use Rattle.std.proofs.Common.{◌≡◌, ℕ, List, Some, true, true≢false, option_map, sym, ap, ◌∙◌}
 use Rattle.sums.specs.Prints.{print as print_of, same_print}
-use Rattle.keep.proofs.Prints.{same_print-Decides}
+use Rattle.book.proofs.Prints.{same_print-Decides}
 use Rattle.inquiry.specs.Reading.{body_of}
 use Rattle.inquiry.proofs.InquiryLemmas.{printed}
 use Rattle.inquiry.proofs.reading.body_of.Goals as goal

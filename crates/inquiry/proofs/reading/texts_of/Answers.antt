@@ -3,9 +3,9 @@ use Rattle.std.specs.Option.{option_map}
 use Rattle.std.proofs.lemmas.List.{length_push, take_all}
 use Rattle.std.proofs.lemmas.List.Elements.{All-same}
 use Rattle.suites.specs.Upload.{IsTextOf}
-use Rattle.keep.specs.Book.{Book}
-use Rattle.keep.proofs.Lists.{texts_more}
-use Rattle.keep.proofs.ReadLemmas.{reads_more, reads_none}
+use Rattle.book.specs.Book.{Book}
+use Rattle.book.proofs.Lists.{texts_more}
+use Rattle.book.proofs.ReadLemmas.{reads_more, reads_none}
 use Rattle.inquiry.specs.Reading.{kept_text, kept_texts}
 use Rattle.inquiry.proofs.InquiryLemmas.{kept_more, kept_none, none_before}
 use Rattle.inquiry.proofs.reading.texts_of.Goals as goal

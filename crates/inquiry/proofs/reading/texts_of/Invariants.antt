@@ -1,5 +1,5 @@
 use Rattle.std.proofs.Common.{◌≡◌, ◌++◌, All, drop, length, option_map, take, zip}
-use Rattle.keep.specs.Keeping.{Reads}
+use Rattle.book.specs.Keeping.{Reads}
 use Rattle.suites.specs.Upload.{IsTextOf}
 use Rattle.inquiry.specs.Reading.{kept_texts}
 use Rattle.inquiry.proofs.reading.texts_of.Given as goal

@@ -2,7 +2,7 @@ use Rattle.std.proofs.Common.{map, ap, sym, ◌∙◌, rules}
 use Rattle.std.proofs.lemmas.Cmp.{on_total}
 use Rattle.pages.specs.SuitePage.{row_order}
 use Rattle.pages.proofs.RowOrders.{row_order_total}
-use Rattle.pages.proofs.Sorting.{sorted_by-map, sorted_same}
+use Rattle.book.proofs.Sorting.{sorted_by-map, sorted_same}
 use Rattle.pages.proofs.grouped.in_row_order.Goals as goal
 
 pub returns : goal.returns

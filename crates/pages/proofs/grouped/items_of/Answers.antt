@@ -3,7 +3,7 @@ use Rattle.std.proofs.lemmas.List.{map-append}
 use Rattle.std.specs.Map.Iter.{deref_pair}
 use Rattle.suites.specs.declared.key.ShelfKey.{ShelfKey}
 use Rattle.suites.specs.declared.item.Item.{Item}
-use Rattle.texts.proofs.Listing.{shown_more, all_shown}
+use Rattle.indices.proofs.Listing.{shown_more, all_shown}
 use Rattle.pages.specs.SuitePage.{is_of}
 use Rattle.pages.proofs.RowOrders.{kept_more}
 use Rattle.pages.proofs.grouped.items_of.Goals as goal

@@ -1,8 +1,9 @@
 use Rattle.std.proofs.Common.{List, ap₂, codes, option_map, string_bytes, ℕ, ◌++◌}
 use Rattle.std.specs.List.{flat_map}
+use Rattle.texts.proofs.Appended.{two}
 use Rattle.pages.specs.IndexPage.{key_value, types_text, word_text, field_text, sources_text}
 use Rattle.pages.specs.declared.index.TheConstants.{URL}
-use Rattle.pages.proofs.Appends.{after, at_last}
+use Rattle.pages.proofs.Appends.{at_last}
 use Rattle.pages.proofs.index.push_sources.Goals as goal
 
 pub returns : goal.returns
@@ -20,14 +21,14 @@ returns c =
     let text9 : List ℕ = codes "\n" in
     let text10 : List ℕ = field_text (option_map key_value c.args.key.now) in
     let text11 : List ℕ = codes "\n</pre>\n" in
-    let part2 = after out _ _ (text1) text2 c.in_ok-push_markup.ensures c.in_ok-push_types.ensures in
-    let part3 = after out _ _ (text1 ++ text2) text3 part2 c.in_ok-push_markup-2.ensures in
-    let part4 = after out _ _ (text1 ++ text2 ++ text3) text4 part3 c.in_ok-push_markup-3.ensures in
-    let part5 = after out _ _ (text1 ++ text2 ++ text3 ++ text4) text5 part4 c.in_ok-push_markup-4.ensures in
-    let part6 = after out _ _ (text1 ++ text2 ++ text3 ++ text4 ++ text5) text6 part5 c.in_ok-push_word.ensures in
-    let part7 = after out _ _ (text1 ++ text2 ++ text3 ++ text4 ++ text5 ++ text6) text7 part6 c.in_ok-push_markup-5.ensures in
-    let part8 = after out _ _ (text1 ++ text2 ++ text3 ++ text4 ++ text5 ++ text6 ++ text7) text8 part7 c.in_ok-push_words.ensures in
-    let part9 = after out _ _ (text1 ++ text2 ++ text3 ++ text4 ++ text5 ++ text6 ++ text7 ++ text8) text9 part8 c.in_ok-push_markup-6.ensures in
-    let part10 = after out _ _ (text1 ++ text2 ++ text3 ++ text4 ++ text5 ++ text6 ++ text7 ++ text8 ++ text9) text10 part9 c.in_ok-push_field.ensures in
+    let part2 = two out text1 text2 _ _ c.in_ok-push_markup.ensures c.in_ok-push_types.ensures in
+    let part3 = two out (text1 ++ text2) text3 _ _ part2 c.in_ok-push_markup-2.ensures in
+    let part4 = two out (text1 ++ text2 ++ text3) text4 _ _ part3 c.in_ok-push_markup-3.ensures in
+    let part5 = two out (text1 ++ text2 ++ text3 ++ text4) text5 _ _ part4 c.in_ok-push_markup-4.ensures in
+    let part6 = two out (text1 ++ text2 ++ text3 ++ text4 ++ text5) text6 _ _ part5 c.in_ok-push_word.ensures in
+    let part7 = two out (text1 ++ text2 ++ text3 ++ text4 ++ text5 ++ text6) text7 _ _ part6 c.in_ok-push_markup-5.ensures in
+    let part8 = two out (text1 ++ text2 ++ text3 ++ text4 ++ text5 ++ text6 ++ text7) text8 _ _ part7 c.in_ok-push_words.ensures in
+    let part9 = two out (text1 ++ text2 ++ text3 ++ text4 ++ text5 ++ text6 ++ text7 ++ text8) text9 _ _ part8 c.in_ok-push_markup-6.ensures in
+    let part10 = two out (text1 ++ text2 ++ text3 ++ text4 ++ text5 ++ text6 ++ text7 ++ text8 ++ text9) text10 _ _ part9 c.in_ok-push_field.ensures in
     at_last c.push_markup-7.result out _ _ (text1 ++ text2 ++ text3 ++ text4 ++ text5 ++ text6 ++ text7 ++ text8 ++ text9 ++ text10) text11 _ part10 c.push_markup-7.ensures
     (ap₂ (λ (name : List ℕ) (names : List (List ℕ)). text1 ++ text2 ++ text3 ++ text4 ++ text5 ++ word_text name ++ text7 ++ flat_map word_text names ++ text9 ++ text10 ++ text11) c.as_str.ensures c.as_slice.ensures)

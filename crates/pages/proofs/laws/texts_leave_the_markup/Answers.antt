@@ -1,8 +1,9 @@
 use Rattle.std.proofs.Common.{codes}
+use Rattle.suites.specs.Codenames.{codename_at}
 use Rattle.pages.specs.Frame.{foot_text, script_text, filter_text}
 use Rattle.pages.specs.IndexPage.{index_page}
 use Rattle.pages.specs.Markup.{item_form}
-use Rattle.pages.specs.SuitePage.{item_row, rows, shown, codename_at, suite_page}
+use Rattle.pages.specs.SuitePage.{item_row, rows, shown, suite_page}
 use Rattle.pages.specs.UploadsPage.{uploads_page}
 use Rattle.pages.specs.declared.index.TheConstants as index_constants
 use Rattle.pages.specs.declared.suite.TheConstants as suite_constants
@@ -14,7 +15,7 @@ use Rattle.pages.proofs.laws.texts_leave_the_markup.Goals as goal
 pub returns-clause-suite : goal.returns-clause-suite
 unfolding suite_page rows
 returns-clause-suite c config other shelves others suite place said h =
-    (both (both (both (both (both (both (both (heads config other (codename_at config suite) (codename_at other place) suite_constants.LINKS.now)
+    (both (both (both (both (both (both (both (heads config other (codename_at config.suites suite) (codename_at other.suites place) suite_constants.LINKS.now)
     (summaries config other shelves others suite place said)) (itself suite_constants.FILTER_FIELD.now)) (itself suite_constants.TABLE_HEAD.now))
     (of_forms item_row item_form item_rows (shown shelves suite) (shown others place) h)) (itself TABLE_END.now))
     (itself filter_text)) (itself foot_text)).same

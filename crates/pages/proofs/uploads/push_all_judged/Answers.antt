@@ -1,7 +1,7 @@
 use Rattle.std.proofs.Common.{List, ◌++◌, reverse, string_bytes, sym, ap, ◌∙◌, arith}
 use Rattle.std.specs.List.{flat_map}
 use Rattle.std.proofs.lemmas.List.{append-nil, drop_all}
-use Rattle.keep.specs.declared.change.Judgement.{Judgement}
+use Rattle.book.specs.declared.change.Judgement.{Judgement}
 use Rattle.pages.specs.UploadsPage.{judged_row}
 use Rattle.pages.proofs.Backwards.{written_more}
 use Rattle.pages.proofs.uploads.push_all_judged.Goals as goal

@@ -1,5 +1,5 @@
 use Rattle.std.proofs.Common.{◌≡◌, ◌++◌, take}
-use Rattle.keep.specs.Keeping.{Reads}
+use Rattle.book.specs.Keeping.{Reads}
 use Rattle.telling.specs.Why.{judged_texts}
 use Rattle.telling.proofs.why.push_all_judged.Given as goal
 

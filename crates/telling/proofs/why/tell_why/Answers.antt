@@ -1,6 +1,7 @@
 use Rattle.std.proofs.Common.{Some, string_bytes, sym, ap, ◌∙◌}
 use Rattle.std.specs.Option.{option_map}
-use Rattle.telling.proofs.CourseLemmas.{by_first, by_none, by_second, told_as, why_of_all, why_of_name, why_of_none}
+use Rattle.std.proofs.lemmas.Bool.{or_from, or_right}
+use Rattle.telling.proofs.CourseLemmas.{by_first, told_as, why_of_all, why_of_name, why_of_none}
 use Rattle.telling.proofs.why.tell_why.Goals as goal
 
 pub returns-in_default-clause-told : goal.returns-in_default-clause-told
@@ -26,7 +27,7 @@ returns-then-has_judged-clause-told g c clean = (
       (k.book c.course_of.new.keeper) (c.in_ok-course.ensures.reads.same early (c.in_ok-course.ensures.served early))
       c.push_verdicts.new.out.items (c.in_ok-has_judged.ensures.text clean)
       c.in_ok-has_waiting.has_waiting c.in_ok-has_judged.has_judged c.in_ok-has_waiting.ensures.has_one (c.in_ok-has_judged.ensures.has_one clean)
-      (by_second c.in_ok-has_waiting.has_waiting c.in_ok-has_judged.has_judged c.if-has_judged.true)),
+      (or_right c.in_ok-has_waiting.has_waiting c.in_ok-has_judged.has_judged c.if-has_judged.true)),
 )
 
 pub returns-then-has_waiting-clause-told : goal.returns-then-has_waiting-clause-told
@@ -58,5 +59,5 @@ returns-else-has_waiting-clause-told g c clean = (
       (k.book c.course_of.new.keeper) (c.in_ok-course.ensures.reads.same early (c.in_ok-course.ensures.served early))
       c.push_verdicts.new.out.items (c.in_ok-has_judged.ensures.text clean)
       c.in_ok-has_waiting.has_waiting c.in_ok-has_judged.has_judged c.in_ok-has_waiting.ensures.has_one (c.in_ok-has_judged.ensures.has_one clean)
-      (by_none c.in_ok-has_waiting.has_waiting c.in_ok-has_judged.has_judged c.if-has_waiting.false c.if-has_judged.false)),
+      (or_from c.in_ok-has_waiting.has_waiting c.in_ok-has_judged.has_judged c.if-has_waiting.false c.if-has_judged.false)),
 )

@@ -4,7 +4,7 @@ use Rattle.serde_json.specs.Data.{Data, array}
 use Rattle.serde_json.specs.View.{items_of, view}
 use Rattle.serde_json.proofs.Views.{view-Array}
 use Rattle.sums.specs.declared.print.Print.{Print}
-use Rattle.keep.specs.declared.change.Lack.{Lack}
+use Rattle.book.specs.declared.change.Lack.{Lack}
 use Rattle.output.specs.Explaining.Waits.{came_items, file_data}
 use Rattle.output.proofs.ZipLemmas.{pair_more, pairs_end}
 use Rattle.output.proofs.explaining.waits.came_value.Goals as goal

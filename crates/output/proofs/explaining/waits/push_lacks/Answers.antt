@@ -1,7 +1,7 @@
 use Rattle.std.proofs.Common.{◌++◌, List, map, string_bytes, ◌∙◌, rules}
 use Rattle.std.proofs.lemmas.Slice.Zip.{zip_end, zip_turn}
 use Rattle.sums.specs.declared.print.Print.{Print}
-use Rattle.keep.specs.declared.change.Lack.{Lack}
+use Rattle.book.specs.declared.change.Lack.{Lack}
 use Rattle.output.specs.Explaining.Waits.{lack_lines, lacks_lines}
 use Rattle.output.proofs.ZipLemmas.{pair_more, pairs_end}
 use Rattle.output.proofs.explaining.waits.push_lacks.Goals as goal
