@@ -7,7 +7,7 @@ use Rattle.std.specs.declared.vec.Vec.{Vec}
 use Rattle.std.specs.declared.alloc.Global.{Global}
 use Rattle.std.specs.Borrow.{Bor}
 use Rattle.clap.specs.Words.{Row, Text, all_of, first_of}
-use Rattle.keep.specs.Book.{latest}
+use Rattle.book.specs.Book.{latest}
 use Rattle.usage.specs.Shape.{most_connections}
 use Rattle.command_line.specs.Keys.{is_misnamed, lacks_signed}
 use Rattle.command_line.specs.declared.parsed.Serving.{Serving}

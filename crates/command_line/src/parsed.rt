@@ -186,11 +186,7 @@ impl fmt::Display for LineFault {
     ghost output = { λ fault. Some (fault_text fault) };
 
     fn fmt<W: fmt::Write>(&self, f: &mut fmt::Formatter<W>) -> fmt::Result {
-        match self {
-            LineFault::OutOfMemory => write!(f, "L0"),
-            LineFault::Help(_) => write!(f, "L1"),
-            LineFault::Refused(_) => write!(f, "L2"),
-        }
+        write!(f, "L{}", self.number())
     }
 }
 

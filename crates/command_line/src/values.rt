@@ -6,9 +6,9 @@ ghost use Rattle.clap.specs.Words.{first_of, found_of, rows_of};
 ghost use Rattle.command_line.specs.CommandLines.{AreWords, HasPaths, IsMoment, IsNumber, IsOptionalMoment, IsOptionalWord, IsWord, is_true};
 
 use crate::parsed::LineFault;
+use book::LATEST;
 use clap::ArgMatches;
 use clap::error::ErrorKind;
-use keep::LATEST;
 use std::alloc::{AllocError, Global};
 use usage::{archive_command, export_command, serve_command};
 

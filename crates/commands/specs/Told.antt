@@ -1,7 +1,7 @@
 -- Answers as they are printed.
 use Rattle.std.specs.Prelude.{ℕ, Bool, List, Option, Ok, Some}
 use Rattle.std.specs.Io.KnownBytes.{Appends}
-use Rattle.keep.specs.Book.{Book}
+use Rattle.book.specs.Book.{Book}
 use Rattle.telling.specs.Told.{Asking, IsTold}
 
 -- The answer of a book at a moment is the text that was appended to an output.

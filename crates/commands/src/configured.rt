@@ -1,7 +1,7 @@
 //! The commands that read a configuration: they make an archive, give it another configuration, or print what a configuration says.
 
 ghost use Rattle.std.specs.Prelude.{◌≤◌};
-ghost use Rattle.keep.specs.Book.{latest};
+ghost use Rattle.book.specs.Book.{latest};
 
 use crate::database::{InFile, close, create_archive, migrate_archive, open_archive};
 use crate::fault::Stop;
@@ -9,7 +9,7 @@ use crate::files::conf_body_of;
 use crate::print;
 use crate::slips::{tell_early, tell_passed_over};
 use crate::words::Words;
-use keep::{Keeper, LATEST};
+use book::{Keeper, LATEST};
 use output::checking::{can_be_exported, check_lines, unknown_fields};
 use queue::{Archive, Fault};
 use rules::{Config, ConfigFault};

@@ -10,8 +10,8 @@
 
 use crate::fault::Stop;
 use crate::progress::Progress;
+use book::{KeepFault, Keeper, LATEST};
 pub use in_file::{InFile, OpenFault};
-use keep::{KeepFault, Keeper, LATEST};
 use queue::{Archive, Fault};
 use rules::Config;
 use std::alloc::AllocError;

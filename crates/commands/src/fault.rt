@@ -1,9 +1,9 @@
 //! Why the program ends before it is done.
 
 use crate::escaped::{Escaped, OwnedEscaped};
+use book::KeepFault;
 use command_line::BatchFault;
 use in_file::OpenFault;
-use keep::KeepFault;
 use queue::Fault;
 use rules::ConfigFault;
 use std::alloc::AllocError;

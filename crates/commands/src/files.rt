@@ -12,7 +12,7 @@ ghost use Rattle.rules.specs.Sizes.{largest};
 
 use crate::escaped::Escaped;
 use crate::fault::Stop;
-use keep::Keeper;
+use book::Keeper;
 use queue::{Archive, Fault};
 use std::fs::{self, File, Metadata};
 use std::io::{self, Read};

@@ -1,11 +1,11 @@
 //! What the program prints of an archive, over any keeper.
 
 ghost use Rattle.std.specs.Prelude.{◌≡◌, ◌⊎◌, ◌≤◌, true, false, OnOk, OnErr, IfErr};
-ghost use Rattle.keep.specs.Book.{latest};
-ghost use Rattle.keep.specs.Configured.{configured, keeps_shown};
-ghost use Rattle.keep.specs.Keeping.{MayAnswer};
-ghost use Rattle.keep.specs.declared.fault.KeepFault.{KeepFault as KeepersFault};
-ghost use Rattle.keep.specs.declared.fault.KeepFault.TheVariants.{Configuration as NotKept};
+ghost use Rattle.book.specs.Book.{latest};
+ghost use Rattle.book.specs.Configured.{configured, keeps_shown};
+ghost use Rattle.book.specs.Keeping.{MayAnswer};
+ghost use Rattle.book.specs.declared.fault.KeepFault.{KeepFault as KeepersFault};
+ghost use Rattle.book.specs.declared.fault.KeepFault.TheVariants.{Configuration as NotKept};
 ghost use Rattle.queue.specs.Configuring.{Endures, LeavesConfigured};
 ghost use Rattle.queue.specs.Steps.{IsUndone, Reads};
 ghost use Rattle.commands.specs.declared.fault.Stop.TheVariants.{NoArchive};
@@ -16,7 +16,7 @@ use crate::fault::Stop;
 use crate::files::{body_of, file_name, most_read, opened};
 use crate::progress::Progress;
 use crate::told::print_told;
-use keep::{FilePiece, KeepFault, Keeper};
+use book::{FilePiece, KeepFault, Keeper};
 use queue::{Archive, Arrived, Fault, Promotion, Report};
 use rules::Config;
 use std::alloc::{AllocError, Global};
@@ -294,7 +294,7 @@ fn print_piece<'a, W: Write>(piece: Option<FilePiece>, out: &mut W) -> Result<u6
 }
 
 /// Prints the bytes of the file of the pool at a path after its first piece: `left` of them. Each piece is written before the next is read.
-#[tactic(auto, using(keep::proofs::ReadLemmas::reads_none, keep::proofs::ReadLemmas::reads_more))]
+#[tactic(auto, using(book::proofs::ReadLemmas::reads_none, book::proofs::ReadLemmas::reads_more))]
 fn show_rest<'a, K: Keeper, W: Write>(
     alloc: Global,
     archive: &mut Archive<K>,
@@ -315,7 +315,7 @@ fn show_rest<'a, K: Keeper, W: Write>(
 }
 
 /// Prints the bytes of the index or the file of the pool at a path. A file is read and written piece by piece.
-#[tactic(auto, using(keep::proofs::ReadLemmas::reads_none, keep::proofs::ReadLemmas::reads_more))]
+#[tactic(auto, using(book::proofs::ReadLemmas::reads_none, book::proofs::ReadLemmas::reads_more))]
 pub fn show<'a, K: Keeper, W: Write>(
     alloc: Global,
     archive: &mut Archive<K>,

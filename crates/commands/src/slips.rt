@@ -3,8 +3,8 @@
 //! line that can't be written changes nothing.
 
 use crate::print::print_lines;
+use book::Keeper;
 use command_line::{LineRequest, Request};
-use keep::Keeper;
 use output::checking::passed_lines;
 use queue::Archive;
 use std::alloc::{AllocError, Global};

@@ -7,7 +7,7 @@ ghost use Rattle.commands.specs.Told.{IsPrinted};
 ghost use Rattle.telling.specs.Told.{configuration, question_of};
 
 use crate::fault::Stop;
-use keep::Keeper;
+use book::Keeper;
 use queue::{Archive, Fault};
 use std::alloc::{AllocError, Global};
 use std::io::Write;

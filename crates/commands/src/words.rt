@@ -4,8 +4,8 @@
 use crate::database::length_of;
 use crate::escaped::Escaped;
 use crate::fault::Stop;
+use book::{KeepFault, Keeper};
 use command_line::{CommandLine, LineRequest, Request};
-use keep::{KeepFault, Keeper};
 use output::checking::{Nearest, fault_line, hidden_line};
 use queue::{Archive, Fault};
 use rules::{Config, ConfigFault};

@@ -3,7 +3,8 @@
 //! The archive is in memory and has one suite, `box`. The words are the paths of the files.
 #![tactic(auto)]
 
-use keep::{Keeper, PlainKeeper};
+use book::Keeper;
+use keep::PlainKeeper;
 use queue::{Archive, Fault};
 use rules::Config;
 use std::alloc::Global;

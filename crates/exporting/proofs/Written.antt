@@ -1,24 +1,9 @@
 -- A file of the pool that is written piece by piece.
-use Rattle.std.proofs.Common.{◌≡◌, ℕ, ◌+◌, ◌*◌, ◌≤◌, List, [], ◌++◌, Option, Some, None, refl, sym, ap, ◌∙◌, subst, take, drop, length, unwrap_or, arith}
+use Rattle.std.proofs.Common.{◌≡◌, ℕ, ◌+◌, ◌*◌, ◌≤◌, List, ◌++◌, Option, sym, ap, ◌∙◌, subst, take, drop, length, arith}
 use Rattle.std.proofs.Math.Seq.{take-add}
 use Rattle.std.proofs.lemmas.List.{take_all}
-use Rattle.std.proofs.lemmas.Option.{none-some}
 use Rattle.std.proofs.KnownBytes.{Appends-trans}
-use Rattle.std.specs.Option.{option_map}
 use Rattle.std.specs.Io.KnownBytes.{Appends}
-use Rattle.keep.specs.Pieces.{PieceValue, piece_of_body}
-
--- There is a file, and this is its piece.
-pub record IsPieceOf (file : Option (List ℕ)) (number : ℕ) (piece : PieceValue) : Type 0 where
-  pub some : file ≡ Some (unwrap_or file [])
-  pub is : piece ≡ piece_of_body number (unwrap_or file [])
-
-some_inner : {A : Type 0} (x y : A) → Some x ≡ Some y → x ≡ y
-some_inner x y e = ap (λ o. unwrap_or o x) e
-
-pub is_piece_of : (file : Option (List ℕ)) (number : ℕ) (piece : PieceValue) → option_map (piece_of_body number) file ≡ Some piece → IsPieceOf file number piece
-is_piece_of None number piece e = absurd (none-some piece e)
-is_piece_of (Some body) number piece e = record { some = refl; is = sym (some_inner (piece_of_body number body) piece e) }
 
 -- the first piece
 pub first_written : (before after : Option (List ℕ)) (body bytes : List ℕ) → bytes ≡ take 65536 (drop (65536 * 0) body) → Appends before after bytes → Appends before after (take (65536 * 1) body)

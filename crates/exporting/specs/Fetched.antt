@@ -1,12 +1,12 @@
 -- What an export has from the archive.
 use Rattle.std.specs.Prelude.{◌≡◌, ℕ, List, codes, Option, Some, Ok}
 use Rattle.std.specs.Io.KnownBytes.{Appends}
-use Rattle.keep.specs.declared.keeper.Keeper.{Ghosts}
+use Rattle.book.specs.declared.keeper.Keeper.{Ghosts}
 use Rattle.queue.specs.Answers.{IsKept}
 use Rattle.queue.specs.Archives.{book_of}
 use Rattle.queue.specs.Histories.{History, Lookup, Found}
 use Rattle.queue.specs.Steps.{Does}
-use Rattle.texts.specs.Indices.{path_in}
+use Rattle.indices.specs.Indices.{path_in}
 use Rattle.exported.specs.Names.{state_name}
 
 -- After each history whose book is kept, these are the bytes that its plain archive has at the path.

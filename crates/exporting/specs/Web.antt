@@ -1,6 +1,6 @@
 -- The pages of a tree.
 use Rattle.std.specs.Prelude.{◌≡◌, ℕ, Bool, List, Option, Some, None, if◌then◌else◌}
-use Rattle.keep.specs.Book.{Book}
+use Rattle.book.specs.Book.{Book}
 use Rattle.suites.specs.Shelves.{ShelvesValue}
 use Rattle.pages.specs.IndexPage.{KeyValue, index_page}
 use Rattle.pages.specs.declared.site.Site.TheVariants.{Tree}

@@ -1,7 +1,7 @@
 //! An export, from the lock to the last line.
 
 ghost use Rattle.std.specs.Prelude.{◌≡◌, ◌≤◌};
-ghost use Rattle.keep.specs.Book.{latest};
+ghost use Rattle.book.specs.Book.{latest};
 ghost use Rattle.queue.specs.Steps.{Reads};
 
 use crate::asked::{Export, Job, Watcher};
@@ -10,9 +10,9 @@ use crate::mending::mend_states;
 use crate::showing::{make_unshown_states, take_steps};
 use crate::states::{refuse_named, refuse_signed, wanted_suites};
 use crate::web::{write_index, write_uploads};
+use book::{Keeper, LATEST};
 use exported::Manifest;
 use folders::{Disk, Folder, FolderFault};
-use keep::{Keeper, LATEST};
 use queue::{Archive, Fault};
 use std::alloc::Global;
 use std::fs::File;

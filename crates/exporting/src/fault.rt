@@ -1,7 +1,7 @@
 //! Why an export ends before it is done.
 
+use book::KeepFault;
 use folders::FolderFault;
-use keep::KeepFault;
 use queue::Fault;
 use std::alloc::{AllocError, AllocFailed};
 use std::error::Error;

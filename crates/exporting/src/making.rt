@@ -2,14 +2,14 @@
 
 ghost use Rattle.std.specs.Prelude.{◌≡◌, IfOk};
 ghost use Rattle.queue.specs.Steps.{Reads};
-ghost use Rattle.texts.specs.Indices.{path_in};
+ghost use Rattle.indices.specs.Indices.{path_in};
 ghost use Rattle.exporting.specs.Fetched.{IsFetched};
 
 use crate::asked::Job;
 use crate::fault::ExportFault;
+use book::Keeper;
 use exported::new_name;
 use folders::{Disk, Folder, Kept};
-use keep::Keeper;
 use pages::suite_page;
 use queue::Archive;
 use std::alloc::Global;
@@ -61,7 +61,7 @@ fn write_text<R: Disk, K: Keeper>(
 }
 
 /// Writes all texts of a suite into a folder.
-#[tactic(auto, using(keep::proofs::ReadLemmas::reads_none, keep::proofs::ReadLemmas::reads_more))]
+#[tactic(auto, using(book::proofs::ReadLemmas::reads_none, book::proofs::ReadLemmas::reads_more))]
 fn write_texts<R: Disk, K: Keeper>(
     rt: &R,
     archive: &mut Archive<K>,

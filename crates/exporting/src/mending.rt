@@ -5,8 +5,8 @@ ghost use Rattle.queue.specs.Steps.{Reads};
 
 use crate::fault::ExportFault;
 use crate::making::text_at;
+use book::Keeper;
 use folders::{Disk, Folder};
-use keep::Keeper;
 use pages::suite_page;
 use queue::Archive;
 use suites::Shelves;
@@ -28,7 +28,7 @@ fn mend_text<R: Disk, K: Keeper>(
 }
 
 /// Mends the texts of a state that are not as the archive has them. Answers how many those are.
-#[tactic(auto, using(keep::proofs::ReadLemmas::reads_none, keep::proofs::ReadLemmas::reads_more))]
+#[tactic(auto, using(book::proofs::ReadLemmas::reads_none, book::proofs::ReadLemmas::reads_more))]
 fn mend_texts<R: Disk, K: Keeper>(
     rt: &R,
     archive: &mut Archive<K>,
@@ -94,7 +94,7 @@ fn mend_state<R: Disk, K: Keeper>(
 }
 
 /// Mends each state that is made, and notes in each suite how many of its files were mended.
-#[tactic(auto, using(keep::proofs::ReadLemmas::reads_none, keep::proofs::ReadLemmas::reads_more))]
+#[tactic(auto, using(book::proofs::ReadLemmas::reads_none, book::proofs::ReadLemmas::reads_more))]
 pub fn mend_states<R: Disk, K: Keeper>(
     rt: &R,
     archive: &mut Archive<K>,

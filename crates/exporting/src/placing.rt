@@ -3,16 +3,16 @@
 ghost use Rattle.std.specs.Prelude.{◌≡◌, ◌*◌, Some, IfOk, OnOk};
 ghost use Rattle.std.specs.Option.{option_map};
 ghost use Rattle.std.specs.Io.KnownBytes.{Appends};
-ghost use Rattle.keep.specs.Pieces.{piece_of_body, piece_value};
+ghost use Rattle.book.specs.Pieces.{piece_of_body, piece_value};
 ghost use Rattle.queue.specs.Pieces.{HasFirst};
 ghost use Rattle.queue.specs.Steps.{Reads};
 ghost use Rattle.exporting.specs.Fetched.{IsWritten};
 
 use crate::asked::Job;
 use crate::fault::ExportFault;
+use book::{FilePiece, KeepFault, Keeper, PIECE_SIZE};
 use exported::Manifest;
 use folders::{Disk, Folder};
-use keep::{FilePiece, KeepFault, Keeper, PIECE_SIZE};
 use queue::{Archive, Fault, is_piece_at};
 use std::alloc::Global;
 use std::io::Write;
@@ -60,7 +60,7 @@ fn next_piece<K: Keeper>(
 
 /// Writes the file of the pool at a path, whose first piece was read. Each piece is written before the next one is read. If the pieces do
 /// not make up a file of the size that the first one says, the archive is damaged.
-#[tactic(auto, using(keep::proofs::ReadLemmas::reads_none, keep::proofs::ReadLemmas::reads_more))]
+#[tactic(auto, using(book::proofs::ReadLemmas::reads_none, book::proofs::ReadLemmas::reads_more))]
 fn write_pieces<R: Disk, K: Keeper, W: Write>(
     rt: &R,
     archive: &mut Archive<K>,

@@ -7,9 +7,9 @@ use crate::asked::{Job, Watcher};
 use crate::fault::ExportFault;
 use crate::making::make_state;
 use crate::placing::place_file;
+use book::Keeper;
 use exported::Manifest;
 use folders::Disk;
-use keep::Keeper;
 use queue::Archive;
 use tree::Step;
 use tree_files::{Standing, remove_left, show_state};
@@ -48,7 +48,7 @@ fn take_step<R: Disk, K: Keeper>(
 }
 
 /// Takes steps in their order, and reports each to the watcher.
-#[tactic(auto, using(keep::proofs::ReadLemmas::reads_none, keep::proofs::ReadLemmas::reads_more))]
+#[tactic(auto, using(book::proofs::ReadLemmas::reads_none, book::proofs::ReadLemmas::reads_more))]
 pub fn take_steps<R: Disk, K: Keeper, T: Watcher>(
     rt: &R,
     archive: &mut Archive<K>,
@@ -70,7 +70,7 @@ pub fn take_steps<R: Disk, K: Keeper, T: Watcher>(
 
 /// Makes the states that wait for a signature. If names by digest are asked for, it adds them to those states, and to the ones that are
 /// shown already.
-#[tactic(auto, using(keep::proofs::ReadLemmas::reads_none, keep::proofs::ReadLemmas::reads_more))]
+#[tactic(auto, using(book::proofs::ReadLemmas::reads_none, book::proofs::ReadLemmas::reads_more))]
 pub fn make_unshown_states<R: Disk, K: Keeper>(
     rt: &R,
     archive: &mut Archive<K>,

@@ -6,9 +6,9 @@ ghost use Rattle.exporting.specs.Fetched.{IsStateOf};
 
 use crate::fault::ExportFault;
 use crate::making::text_at;
+use book::Keeper;
 use exported::{Manifest, state_name};
 use folders::Disk;
-use keep::Keeper;
 use queue::Archive;
 use rules::Config;
 use std::alloc::Global;
@@ -28,7 +28,7 @@ fn wanted_state<K: Keeper>(
 }
 
 /// Gives each suite the name of the state that it is to show.
-#[tactic(auto, using(keep::proofs::ReadLemmas::reads_none, keep::proofs::ReadLemmas::reads_more))]
+#[tactic(auto, using(book::proofs::ReadLemmas::reads_none, book::proofs::ReadLemmas::reads_more))]
 fn find_states<K: Keeper>(
     alloc: Global,
     archive: &mut Archive<K>,

@@ -1,8 +1,8 @@
 //! The pages of an export for people.
 
 ghost use Rattle.std.specs.Prelude.{◌≡◌, ◌≤◌, IfOk, option_map, string_bytes};
-ghost use Rattle.keep.specs.Book.{latest, waiting_list};
-ghost use Rattle.keep.specs.Keeping.{Apart};
+ghost use Rattle.book.specs.Book.{latest, waiting_list};
+ghost use Rattle.book.specs.Keeping.{Apart};
 ghost use Rattle.pages.specs.IndexPage.{key_value};
 ghost use Rattle.pages.specs.UploadsPage.{uploads_page};
 ghost use Rattle.pages.specs.declared.site.Site.TheVariants.{Tree};
@@ -11,8 +11,8 @@ ghost use Rattle.exporting.specs.Web.{IsIndex, IsKey};
 
 use crate::asked::Export;
 use crate::fault::ExportFault;
+use book::Keeper;
 use folders::Disk;
-use keep::Keeper;
 use pages::{Key, index_page, uploads_page};
 use queue::Archive;
 use std::alloc::Global;

@@ -3,7 +3,7 @@ use Rattle.std.proofs.Common.{◌≤◌, ◌+◌, ℕ, List, All, arith}
 use Rattle.desk.specs.declared.routes.Rules.{Rules}
 use Rattle.desk.specs.Connections.{HasServed, IsClientsWithin, NeverFall, Visit}
 use Rattle.desk.proofs.ConnectionLemmas.{two_turns}
-use Rattle.keep.specs.declared.keeper.Keeper.{Ghosts}
+use Rattle.book.specs.declared.keeper.Keeper.{Ghosts}
 
 -- a later last moment, and an earlier first one
 within : (rules : Rules) (first last from to : ℕ) (v : Visit) → from ≤ first → last ≤ to → IsClientsWithin rules first last v → IsClientsWithin rules from to v

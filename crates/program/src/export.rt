@@ -3,13 +3,13 @@
 ghost use Rattle.std.specs.Prelude.{◌≡◌};
 ghost use Rattle.program.specs.Keys.{key_name};
 
+use book::Keeper;
 use command_line::Exporting;
 use commands::database::{InFile, close, open_shown};
 use commands::escaped::OwnedEscaped;
 use commands::fault::Stop;
 use commands::progress::Progress;
 use exporting::{Export, ExportFault, Watcher};
-use keep::Keeper;
 use pages::KEY;
 use queue::Fault;
 use std::io::Write;

@@ -2,12 +2,12 @@
 
 use crate::export::export_file;
 use crate::serving_file::serve_file;
+use book::Keeper;
 use command_line::CommandLine;
 use commands::database::InFile;
 use commands::fault::{Stop, all_taken};
 use commands::words::Words;
 use in_file::FileArchives;
-use keep::Keeper;
 use std::io::Write;
 
 /// Does a line over keepers of this type, and answers whether all that was given was taken and nothing was passed over. If it is refused,

@@ -5,7 +5,7 @@
 ghost use Rattle.std.specs.Prelude.{◌≡◌, ◌≤◌, None};
 
 use crate::database::length_of;
-use keep::LATEST;
+use book::LATEST;
 use std::fs::File;
 use std::io::{self, Read};
 use std::rt::Files;

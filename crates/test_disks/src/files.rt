@@ -7,7 +7,7 @@ use crate::steps::{Step, paths_of};
 use crate::tampered::{changed, front, opening, opening_of, tampered, without_end};
 use crate::trial::{Left, Plan, SOUND, Which, done, old_of};
 use crate::work::{Work, told_fault, word_or_fault};
-use keep::KeepFault;
+use book::KeepFault;
 use old_book::OldBook;
 use std::alloc::Global;
 use test_rows::{Answers, Unread, said, text_of};

@@ -6,7 +6,7 @@ use crate::image::Image;
 use crate::steps::{Step, paths_of, told_of};
 use crate::trial::{Left, Plan, SOUND, done};
 use crate::work::{Work, told_fault};
-use keep::KeepFault;
+use book::KeepFault;
 use std::alloc::Global;
 use test_rows::{Unread, said};
 use test_story::{Pieces, Task, add_paths, difference, is_refused_line};

@@ -3,7 +3,7 @@
 use crate::image::Image;
 use crate::trial::{SOUND, done};
 use crate::work::{Making, Work, told_fault};
-use keep::{KeepFault, LATEST};
+use book::{KeepFault, LATEST};
 use old_book::OldBook;
 use rules::Config;
 use std::alloc::Global;

@@ -4,7 +4,7 @@
 use crate::failing::{Failing, Kind};
 use crate::image::Image;
 use crate::work::{Answer, Work};
-use keep::KeepFault;
+use book::KeepFault;
 use keep_tables::fault_of;
 use old_book::OldBook;
 use sqlite::{Connection, FileStore, Files, Options};

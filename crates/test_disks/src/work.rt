@@ -1,6 +1,6 @@
 //! What is done with a database, over any store. Each function that names the store of files takes the prover minutes.
 
-use keep::{KeepFault, LATEST};
+use book::{KeepFault, LATEST};
 use keep_tables::{InOrder, TableKeeper, fault_of};
 use old_book::OldBook;
 use queue::Archive;

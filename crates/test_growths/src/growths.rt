@@ -2,7 +2,7 @@
 //! all the same. If it is refused, the archive has to show what it showed before, and the call is made again.
 
 use crate::keepers::Places;
-use keep::{KeepFault, Keeper};
+use book::{KeepFault, Keeper};
 use queue::Archive;
 use rules::Config;
 use std::alloc::Global;

@@ -2,7 +2,8 @@
 
 ghost use Rattle.std.specs.Prelude.{◌≤◌};
 
-use keep::{KeepFault, LATEST, PlainKeeper};
+use book::{KeepFault, LATEST};
+use keep::PlainKeeper;
 use keep_tables::{InOrder, TableKeeper};
 use rules::Config;
 use sqlite::{Connection, MemStore};

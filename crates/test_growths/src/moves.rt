@@ -2,7 +2,7 @@
 
 use crate::growths::{Marked, Marks, config_of, prints_marks};
 use crate::keepers::{InMemory, Tables};
-use keep::{KeepFault, LATEST};
+use book::{KeepFault, LATEST};
 use keep_tables::TableKeeper;
 use old_book::OldBook;
 use queue::Archive;

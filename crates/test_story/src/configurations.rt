@@ -1,7 +1,7 @@
 //! Configurations that an archive gets, and the one that it has.
 
 use crate::outcomes::printed;
-use keep::{KeepFault, Keeper, LATEST};
+use book::{KeepFault, Keeper, LATEST};
 use queue::Archive;
 use rules::{Config, ConfigFault};
 use std::alloc::Global;

@@ -3,7 +3,7 @@
 use crate::delivery::{Delivery, delivery_of};
 use crate::outcomes::{arrived_text, found_text, number_text, promotion_text, report_text};
 use crate::steps::{moment_of, owned, sources_of};
-use keep::Keeper;
+use book::Keeper;
 use queue::{Archive, Command, Outcome};
 use std::alloc::Global;
 use test_rows::{Unread, number_of, text_of};

@@ -3,8 +3,8 @@
 use crate::keepers::Makes;
 use crate::readers::{Full, Narrow, Pieces};
 use crate::requests::reply_to;
+use book::Keeper;
 use desk::{DeskFault, answer};
-use keep::Keeper;
 use queue::Archive;
 use rules::Config;
 use std::alloc::Global;

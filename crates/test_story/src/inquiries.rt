@@ -2,8 +2,8 @@
 
 use crate::outcomes::report_text;
 use crate::steps::{moment_of, path_of};
+use book::{Counting, Judgement, Keeper, LATEST, Lack, Waiting};
 use inquiry::{Delivered, by_name, came_instead, read_upload};
-use keep::{Counting, Judgement, Keeper, LATEST, Lack, Waiting};
 use output::listing::shown_lines;
 use queue::{Archive, Fault, Report};
 use reasons::{Named, Reason, reason_of};

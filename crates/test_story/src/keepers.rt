@@ -5,7 +5,7 @@
 
 ghost use Rattle.std.specs.Prelude.{◌≤◌};
 
-use keep::{KeepFault, LATEST};
+use book::{KeepFault, LATEST};
 use rules::Config;
 use std::alloc::Global;
 

@@ -1,7 +1,7 @@
 //! The numbers of faults, and how they are printed.
 
+use book::KeepFault;
 use desk::DeskFault;
-use keep::KeepFault;
 use queue::Fault;
 use records::RecordFault;
 use std::alloc::{AllocError, Global};

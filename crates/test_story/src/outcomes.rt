@@ -1,6 +1,6 @@
 //! The answers to calls of an archive, as texts.
 
-use keep::FilePiece;
+use book::FilePiece;
 use queue::{Arrived, Fault, Promotion, Report, SourceCopy};
 use std::alloc::Global;
 use std::fmt::Display;

@@ -2,7 +2,7 @@
 
 use crate::outcomes::refused_text;
 use crate::steps::owned;
-use keep::Keeper;
+use book::Keeper;
 use queue::{Archive, Fault};
 use std::alloc::Global;
 use telling::{Question, TellFault, tell};

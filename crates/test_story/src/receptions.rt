@@ -2,7 +2,7 @@
 
 use crate::outcomes::arrived_text;
 use crate::readers::Pieces;
-use keep::Keeper;
+use book::Keeper;
 use queue::{Archive, Arrived, Fault};
 use std::alloc::Global;
 use test_rows::{Unread, number_of, said, text_of};

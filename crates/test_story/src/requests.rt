@@ -3,8 +3,8 @@
 use crate::outcomes::printed;
 use crate::pieces::replace_pieces;
 use crate::readers::Pieces;
+use book::Keeper;
 use desk::{Served, answer};
-use keep::Keeper;
 use queue::Archive;
 use std::alloc::{AllocError, Global};
 use test_rows::{Unread, number_of, said};

@@ -4,7 +4,7 @@ use crate::delivery::delivery_of;
 use crate::outcomes::{
     arrived_text, found_text, number_text, piece_text, promotion_text, refused_text, report_text,
 };
-use keep::Keeper;
+use book::Keeper;
 use queue::Archive;
 use std::alloc::Global;
 use test_rows::{Unread, number_of, said, text_of};

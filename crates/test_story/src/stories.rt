@@ -14,7 +14,7 @@ use crate::requests::{left, request};
 use crate::steps::{
     clean, copy, deliver, has, moment_of, piece, promote, remove, run, show, verdicts, waiting,
 };
-use keep::{KeepFault, Keeper, LATEST};
+use book::{KeepFault, Keeper, LATEST};
 use queue::Archive;
 use rules::Config;
 use std::alloc::Global;

@@ -3,7 +3,7 @@
 use crate::named::paths_in;
 use crate::refusals::is_refusal;
 use crate::stories::asked;
-use keep::Keeper;
+use book::Keeper;
 use queue::Archive;
 use rules::Config;
 use std::alloc::{AllocError, Global};

@@ -5,7 +5,7 @@ use Rattle.clap.specs.declared.builder.command.Command.TheViews.{out-Command}
 use Rattle.clap.specs.declared.builder.command.Command.{Command}
 use Rattle.clap.specs.declared.builder.ArgAction.TheVariants.{Set, Append, SetTrue}
 use Rattle.clap.specs.declared.builder.value_parser.ValueParser.TheVariants as parser
-use Rattle.keep.specs.Book.{latest}
+use Rattle.book.specs.Book.{latest}
 
 -- the most connections that one call of the program serves
 abbrev pub most_connections : ℕ

@@ -7,8 +7,8 @@ ghost use Rattle.std.specs.Prelude.{◌≡◌, codes, false};
 ghost use Rattle.clap.specs.Words.{rule_of};
 ghost use Rattle.usage.specs.Shape.{at_rule, count_rule, db_rule, flag_rule, from_rule, many_rule, optional_at_rule, optional_word_rule, option_rule, path_rule, word_rule};
 
+use book::LATEST;
 use clap::{Arg, ArgAction, value_parser};
-use keep::LATEST;
 use std::alloc::Global;
 
 /// The most connections that one call of the program serves.

@@ -1,8 +1,9 @@
 //! Connections that are answered one after the other.
 
 use super::checks::{config_of, same};
+use book::Keeper;
 use desk::{Connection, Desk, attend};
-use keep::{Keeper, PlainKeeper};
+use keep::PlainKeeper;
 use queue::Archive;
 use std::alloc::{AllocError, Global};
 use std::process::Abort;

@@ -3,10 +3,9 @@
 use super::checks::{BOX, config_of, same};
 use super::databases::{Subject, expect_in_memory};
 use super::uploads::{File, HELLO, MOMENT, TIE, TIE_AGAIN};
+use book::{ArrivedFile, Change, Configured, IndexText, Judgement, KeepFault, Keeper, Waiting};
 use desk::{DeskFault, answer};
-use keep::{
-    ArrivedFile, Change, Configured, IndexText, Judgement, KeepFault, Keeper, PlainKeeper, Waiting,
-};
+use keep::PlainKeeper;
 use promise::{InOrder, drive_created};
 use queue::{Archive, Arrived, Fault, Report};
 use rules::Config;

@@ -2,7 +2,7 @@
 
 use super::checks::{BOX, config_of, same};
 use super::databases::{Subject, expect_in_memory};
-use keep::Keeper;
+use book::Keeper;
 use promise::{InOrder, drive_configured, drive_created, drive_opened};
 use queue::{Arrived, Command, Outcome, drive_anew};
 use sqlite::Connection;

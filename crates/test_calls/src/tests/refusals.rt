@@ -1,7 +1,7 @@
 //! What a refusal leaves of an archive over a disk.
 
 use super::checks::{BOX, config_of, same};
-use keep::{KeepFault, Keeper};
+use book::{KeepFault, Keeper};
 use queue::{Archive, Arrived, Fault};
 use std::alloc::Global;
 use std::process::Abort;

@@ -1,5 +1,5 @@
 -- So far the archive was only read.
-use Rattle.keep.specs.Keeping.{Reads}
+use Rattle.book.specs.Keeping.{Reads}
 use Rattle.commands.proofs.print.show_rest.Given as goal
 
 abbrev pub invariant-loop-number : goal.invariant-loop-number

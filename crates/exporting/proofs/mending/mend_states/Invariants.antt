@@ -1,5 +1,5 @@
 -- So far the archive was only read.
-use Rattle.keep.specs.Keeping.{Reads}
+use Rattle.book.specs.Keeping.{Reads}
 use Rattle.exporting.proofs.mending.mend_states.Given as goal
 
 abbrev pub invariant-loop-suite : goal.invariant-loop-suite

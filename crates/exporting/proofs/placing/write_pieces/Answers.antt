@@ -1,9 +1,10 @@
 use Rattle.std.proofs.Common.{◌∙◌, [], ap, arith, sym, unwrap_or}
 use Rattle.std.specs.Option.{option_map}
-use Rattle.keep.specs.Book.{Book}
-use Rattle.keep.specs.Pieces.{piece_of_body}
-use Rattle.keep.proofs.ReadLemmas.{reads_none, reads_more}
-use Rattle.exporting.proofs.Written.{all_written, first_written, is_piece_of, more_written}
+use Rattle.book.specs.Book.{Book}
+use Rattle.book.specs.Pieces.{piece_of_body}
+use Rattle.book.proofs.ReadLemmas.{reads_none, reads_more}
+use Rattle.book.proofs.Pieces.{is_piece_of}
+use Rattle.exporting.proofs.Written.{all_written, first_written, more_written}
 use Rattle.exporting.proofs.placing.write_pieces.Goals as goal
 
 pub loop-number-init : goal.loop-number-init

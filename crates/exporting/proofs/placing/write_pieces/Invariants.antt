@@ -1,7 +1,7 @@
 -- So far the archive was only read, and a keeper that is clean is open. The writer has the pieces before this one.
 use Rattle.std.proofs.Common.{◌*◌, [], take, unwrap_or}
 use Rattle.std.specs.Io.KnownBytes.{Appends}
-use Rattle.keep.specs.Keeping.{Reads}
+use Rattle.book.specs.Keeping.{Reads}
 use Rattle.exporting.proofs.placing.write_pieces.Given as goal
 
 abbrev pub invariant-loop-number : goal.invariant-loop-number

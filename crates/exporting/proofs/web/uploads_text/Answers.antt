@@ -1,7 +1,7 @@
 use Rattle.std.proofs.Common.{◌≡◌, List, ap, ap₂, ◌∙◌}
-use Rattle.keep.specs.Book.{Book}
-use Rattle.keep.specs.declared.change.Judgement.{Judgement}
-use Rattle.keep.specs.declared.change.Waiting.{Waiting}
+use Rattle.book.specs.Book.{Book}
+use Rattle.book.specs.declared.change.Judgement.{Judgement}
+use Rattle.book.specs.declared.change.Waiting.{Waiting}
 use Rattle.rules.specs.Values.{ConfigValue}
 use Rattle.pages.specs.UploadsPage.{uploads_page}
 use Rattle.pages.specs.declared.site.Site.TheVariants.{Tree}
