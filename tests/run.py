@@ -41,7 +41,7 @@ GATE = ["rt", "ci"]
 HAS_HEAD_START = True
 HAS_JOBS = True
 # The crates that stand on each other at its beginning, lowest first, and those that stand on few of them and on which much waits.
-CHAIN = ["para", "vers", "sums", "records", "rules", "suites", "texts", "keep"]
+CHAIN = ["para", "vers", "sums", "records", "rules", "suites", "indices", "book"]
 BESIDE = ["test_rows", "tables", "tables_read", "old_rows"]
 # A crate is proved by the run that comes to it first: those of the chain are to be proved by two jobs each, so that run begins first.
 SECONDS_TO_BEGIN = 10

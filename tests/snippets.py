@@ -84,6 +84,7 @@ PIECES = {
     "stop": "runuser -u archive -- sh\n",
     "another configuration": "/^Architectures: amd64/& arm64/'",
     "one uploader more": "copy=$(runuser",
+    "one uploader of a suite": "at == \"testing\"",
     "another name": "> both.conf",
     "another name on machines": "sed -i 's/ box main/",
     "the old name goes": "'s/^AlsoAcceptFor:.*/& box/'",

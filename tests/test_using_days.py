@@ -120,6 +120,16 @@ esac
         self.assertEqual(self.shell("archive run --db box.db --at 4000000000"), "accepted again.changes\n")
 
 
+    def test_one_uploader_of_a_suite(self):
+        """The suites that let in nobody stay so."""
+        old = snippet("three suites")
+        self.room.write("work/old.conf", old)
+        self.shell(snippet("one uploader of a suite"))
+        self.assertEqual(self.room.read("work/new.conf"), old.replace("Uploaders:\n * by Ann", f"Uploaders:\n * by {BOB}\n * by Ann", 1))
+        rules = [line for line in self.shell("archive check new.conf").splitlines() if line.startswith((" uploads", "suite"))]
+        self.assertEqual(sum("Bob" in line for line in rules), 1)
+
+
 class States(Days):
     def test_a_whole_state_goes_and_comes_back(self):
         self.made_with_three()

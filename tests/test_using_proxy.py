@@ -148,7 +148,7 @@ class Proxy(unittest.TestCase):
         self.assertEqual(lines[5:8], ["distribution UNRELEASED", "taken box box", "taken unstable box"])
         self.site.write("uploaders", "ann:{PLAIN}another\n")
         status, printed, told = self.one_command(HELLO)
-        self.assertEqual((status, printed.splitlines()), (1, ["refused 401 Unauthorized verdicts", "Give --login USER:PASSWORD, or another one."]), told)
+        self.assertEqual((status, printed.splitlines()), (1, ["refused 401 Unauthorized verdicts", "Give --login FILE, a file whose first line is USER:PASSWORD, or another one."]), told)
 
     def queue_once_said(self, text):
         """Runs the queue once a text is in the file `said`."""
