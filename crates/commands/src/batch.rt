@@ -18,7 +18,7 @@ ghost use Rattle.std.specs.Prelude.{◌≡◌, ◌+◌, nat_le};
 use crate::database::{InFile, Opening, close, is_of_database, length_of, open_shown};
 use crate::escaped::Escaped;
 use crate::fault::Stop;
-use crate::files::{body_of, file_name, most_read, opened, read_of};
+use crate::files::{body_of, most_read, opened, read_of};
 use crate::print::{has_refused, print_arrived, print_report};
 use crate::progress::Progress;
 use crate::slips::tell_early;
@@ -29,6 +29,7 @@ use std::alloc::{AllocError, Global};
 use std::fs::File;
 use std::io::{self, Read, Write};
 use std::rt::Files;
+use texts::file_name;
 
 /// The most bytes that the bodies of a group may have in all.
 const MOST_BYTES: u64 = 16_777_216;

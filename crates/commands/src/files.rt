@@ -29,14 +29,6 @@ pub fn most_read<K: Keeper>(archive: &Archive<K>) -> u64
     taken + 1
 }
 
-/// The text after a path's last slash.
-pub fn file_name(path: &str) -> &str {
-    match path.rsplit_once('/') {
-        Some((_, name)) => name,
-        None => path,
-    }
-}
-
 fn read_file<R: Files + AllocGlobal>(rt: &R, path: &str, most: u64) -> io::Result<Vec<u8>> {
     let mut body = Vec::new(rt.alloc());
     File::open(rt, path)?.take(most).read_to_end(&mut body)?;

@@ -6,7 +6,7 @@ use crate::configured::{check, configure, init, migrate};
 use crate::database::{InFile, Opening};
 use crate::escaped::Escaped;
 use crate::fault::{Stop, all_taken};
-use crate::files::{body_of, file_name, most_read};
+use crate::files::{body_of, most_read};
 use crate::words::Words;
 use book::Keeper;
 use command_line::{CommandLine, LineFault, line};
@@ -17,6 +17,7 @@ use std::alloc::{AllocError, Global};
 use std::cmp::Ordering;
 use std::io::{self, Write};
 use std::rt::Files;
+use texts::file_name;
 use vers::Version;
 
 /// The configuration of the archive that `try` makes.

@@ -13,7 +13,7 @@ ghost use Rattle.commands.specs.declared.fault.Stop.TheVariants.{NoArchive};
 use crate::database::{Opening, is_of_database, length_of};
 use crate::escaped::Escaped;
 use crate::fault::Stop;
-use crate::files::{body_of, file_name, most_read, opened};
+use crate::files::{body_of, most_read, opened};
 use crate::progress::Progress;
 use crate::told::print_told;
 use book::{FilePiece, KeepFault, Keeper};
@@ -23,6 +23,7 @@ use std::alloc::{AllocError, Global};
 use std::io::{self, BufWriter, Write};
 use std::rt::Files;
 use telling::Question;
+use texts::file_name;
 
 /// The number of bytes of lines that are collected before they are written.
 const MOST_TOGETHER: usize = 65_536;

@@ -11,7 +11,7 @@ use book::Keeper;
 use queue::{Archive, Fault};
 use std::alloc::{AllocError, Global};
 use std::io::Write;
-use telling::{Question, TellFault, tell};
+use telling::{Question, tell};
 
 /// A name that may be left out, as a text of its own.
 fn owned(alloc: Global, name: Option<&str>) -> Result<Option<String>, AllocError> {
@@ -37,15 +37,6 @@ pub fn of_uploads(
     Ok(Question::Why { name, is_json })
 }
 
-/// Why a question is refused, as a fault of the archive.
-fn fault_of(fault: TellFault) -> Fault {
-    match fault {
-        TellFault::Keeper(fault) => Fault::from(fault),
-        TellFault::Moment => Fault::Moment,
-        TellFault::UnknownSuite => Fault::UnknownSuite,
-    }
-}
-
 /// Prints the answer of an archive at a moment, in seconds since 1970-01-01 00:00:00 UTC. What is asked about a name that no upload has is
 /// not found. The archive is only read.
 pub fn print_told<'a, K: Keeper, W: Write>(
@@ -67,6 +58,6 @@ pub fn print_told<'a, K: Keeper, W: Write>(
             Ok(())
         }
         Ok(None) => Err(Stop::NotFound),
-        Err(fault) => Err(Stop::from(fault_of(fault))),
+        Err(fault) => Err(Stop::from(Fault::from(fault))),
     }
 }

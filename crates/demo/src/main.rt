@@ -11,6 +11,7 @@ use std::alloc::Global;
 use std::io::{self, Write};
 use std::rt::Files;
 use std::{env, fs};
+use texts::file_name;
 
 /// The configuration of the archive.
 const BOX: &[u8] = b"Codename: box\nArchitectures: amd64 source\nComponents: main\n";
@@ -44,14 +45,6 @@ fn box_archive(alloc: Global) -> Result<Archive<PlainKeeper>, Fault> {
     match Config::read(alloc, BOX) {
         Ok(config) => Ok(Archive::new(alloc, PlainKeeper::new(alloc, config, 0)?)),
         Err(_) => Err(Fault::OutOfMemory),
-    }
-}
-
-/// The text after a path's last slash.
-fn file_name(path: &str) -> &str {
-    match path.rsplit_once('/') {
-        Some((_, name)) => name,
-        None => path,
     }
 }
 

@@ -20,7 +20,7 @@ use para::{Listed, Text};
 use std::alloc::{AllocError, Global};
 use std::cmp::Ordering;
 use std::collections::VecDeque;
-use suites::{Item, Kind, PoolFile, ShelfKey, Shelves};
+use suites::{Item, Kind, PoolFile, ShelfKey, Shelves, are_same_files, copied_files};
 use texts::{package_stanza, source_stanza};
 
 /// The number of new stanzas for which there is room at once. The room grows if there are more.
@@ -69,39 +69,6 @@ struct Listing<'a> {
     architecture: &'a str,
 }
 
-/// Whether two files have one path and one print.
-fn is_same(one: &PoolFile, other: &PoolFile) -> bool
-    ensures { IsTrue result ↔ one.now ≡ other.now }
-{
-    one.path.as_str() == other.path.as_str() && one.print == other.print
-}
-
-/// Whether these files are the others, one after the other.
-fn are_same(ones: &[PoolFile], others: &[PoolFile]) -> bool
-    ensures { IsTrue result ↔ ones.now ≡ others.now }
-{
-    if ones.len() != others.len() {
-        return false;
-    }
-    for (index, one) in ones.iter().enumerate() {
-        if !is_same(one, &others[index]) {
-            return false;
-        }
-    }
-    true
-}
-
-/// Copies of files.
-fn copied(alloc: Global, files: &[PoolFile]) -> Result<Listed<PoolFile>, AllocError>
-    ensures { IfOk result (λ copies. copies ≡ files.now) }
-{
-    let mut copies = Vec::new(alloc);
-    for file in files {
-        copies.push(file.try_clone()?)?;
-    }
-    Ok(Listed::from_vec(copies))
-}
-
 impl Inputs {
     /// Copies of what the stanza of an item is made of.
     fn new(alloc: Global, item: &Item) -> Result<Inputs, AllocError>
@@ -111,7 +78,7 @@ impl Inputs {
             paragraph: item.paragraph.try_clone()?,
             component: item.component.try_clone()?,
             source: item.source.try_clone()?,
-            files: copied(alloc, item.files.as_slice())?,
+            files: copied_files(alloc, item.files.as_slice())?,
         })
     }
 
@@ -122,7 +89,7 @@ impl Inputs {
         let paragraph = item.paragraph.as_str() == self.paragraph.as_str();
         let component = item.component.as_str() == self.component.as_str();
         let source = item.source.as_str() == self.source.as_str();
-        let files = are_same(item.files.as_slice(), self.files.as_slice());
+        let files = are_same_files(item.files.as_slice(), self.files.as_slice());
         paragraph && component && source && files
     }
 }

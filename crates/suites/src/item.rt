@@ -1,6 +1,6 @@
 //! What a suite shows: sources and packages, with their files.
 
-ghost use Rattle.std.specs.Prelude.{◌≡◌, IfOk};
+ghost use Rattle.std.specs.Prelude.{◌≡◌, ◌↔◌, IfOk, IsTrue};
 
 use crate::key::{Kind, ShelfKey};
 use para::{Listed, Text};
@@ -128,9 +128,32 @@ impl PoolFile {
             print: self.print,
         })
     }
+
+    /// Whether this file and another have one path and one print.
+    fn is_same(&self, other: &PoolFile) -> bool
+        ensures { IsTrue result ↔ self.now ≡ other.now }
+    {
+        self.path.as_str() == other.path.as_str() && self.print == other.print
+    }
 }
 
-fn copied_files(alloc: Global, files: &[PoolFile]) -> Result<Listed<PoolFile>, AllocError>
+/// Whether these files are the others, one after the other.
+pub fn are_same_files(ones: &[PoolFile], others: &[PoolFile]) -> bool
+    ensures { IsTrue result ↔ ones.now ≡ others.now }
+{
+    if ones.len() != others.len() {
+        return false;
+    }
+    for (index, one) in ones.iter().enumerate() {
+        if !one.is_same(&others[index]) {
+            return false;
+        }
+    }
+    true
+}
+
+/// Copies of files.
+pub fn copied_files(alloc: Global, files: &[PoolFile]) -> Result<Listed<PoolFile>, AllocError>
     ensures { IfOk result (λ copies. copies ≡ files.now) }
 {
     let mut copies = Vec::new(alloc);

@@ -22,7 +22,7 @@ mod verdict;
 
 pub use codename::codename_at;
 pub use copy_plan::{plan_copy, plan_copy_of};
-pub use item::{Item, PoolFile};
+pub use item::{Item, PoolFile, are_same_files, copied_files};
 pub use key::{Kind, ShelfKey};
 pub use listing::{
     has_architecture, has_joined, has_source, is_package_part, lists, package_file, stem,

@@ -1,6 +1,6 @@
 //! Numbers that may be absent, flags and prints, in the columns of an answer.
 
-ghost use Rattle.std.specs.Prelude.{◌≡◌, ◌<◌, ◌+◌, ◌^◌, ◌==◌, not, length, IfOk, IfSome};
+ghost use Rattle.std.specs.Prelude.{◌≡◌, ◌≢◌, None, ◌<◌, ◌+◌, ◌^◌, ◌==◌, not, length, IfOk, IfSome};
 ghost use Rattle.sqlite.specs.Order.{column, bytes};
 ghost use Rattle.tables.specs.Rows.{id_nat, id_of, nat_of, some_nat, some_print, print_at};
 
@@ -41,8 +41,9 @@ pub(crate) fn flag_at(row: &Row, at: usize) -> Result<bool, Error>
 }
 
 /// These bytes as an array of N, if they are N bytes.
-fn array<const N: usize>(bytes: &[u8]) -> Option<[u8; N]>
-    ensures { IfSome result (λ all. all ≡ bytes.now) }
+pub fn array<const N: usize>(bytes: &[u8]) -> Option<[u8; N]>
+    ensures some { IfSome result (λ all. all ≡ bytes.now) }
+    ensures none { result ≡ None → length bytes.now ≢ N }
 {
     if bytes.len() != N {
         return None;

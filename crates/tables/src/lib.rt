@@ -22,7 +22,7 @@
 
 pub mod arrivals;
 pub mod bodies;
-mod cells;
+pub mod cells;
 pub mod dates;
 pub mod files;
 pub mod items;

@@ -13,6 +13,7 @@ ghost use Rattle.tables_read.specs.Reading.{Agree};
 use para::{Listed, Text};
 use sqlite::types::{FromSql, ValueRef};
 use sqlite::{Error, Row};
+use tables::cells::array;
 
 /// A value of one column.
 pub(crate) trait Cell: Sized + Drop {
@@ -129,19 +130,6 @@ impl Cell for Listed<u8> {
             None => Ok(None),
         }
     }
-}
-
-/// These bytes as an array of N, if they are N bytes.
-fn array<const N: usize>(bytes: &[u8]) -> Option<[u8; N]>
-    ensures some { IfSome result (λ all. all ≡ bytes.now) }
-    ensures none { result ≡ None → length bytes.now ≢ N }
-{
-    if bytes.len() != N {
-        return None;
-    }
-    let mut all = [0; N];
-    all.copy_from_slice(bytes);
-    Some(all)
 }
 
 impl<const N: usize> Cell for [u8; N] {

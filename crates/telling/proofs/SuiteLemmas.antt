@@ -107,10 +107,10 @@ module _ {E : Type 0} (number : E → ℕ) where
 
 -- ---- the order of the shelves
 
-abbrev Entry : Type 0
-Entry = ShelfKey × Item
+abbrev Standing : Type 0
+Standing = ShelfKey × Item
 
-abbrev pub suite_on : Entry → ℕ
+abbrev pub suite_on : Standing → ℕ
 suite_on entry = entry.0.suite
 
 first_not_greater : (o p : Ordering) → T (is_lt (ordering_then o p)) → is_le o ≡ true
@@ -122,14 +122,14 @@ not_greater : (a b : ShelfKey) → T (is_lt (key_order a b)) → a.suite ≤ b.s
 unfolding key_order
 not_greater a b h = le_from_is_le a.suite b.suite (first_not_greater (nat_cmp a.suite b.suite) _ h)
 
-above_first : (key : ShelfKey) (es : List Entry) → T (below_all key_order key es) → AllByRecursion (λ e. key.suite ≤ suite_on e) es
+above_first : (key : ShelfKey) (es : List Standing) → T (below_all key_order key es) → AllByRecursion (λ e. key.suite ≤ suite_on e) es
 above_first key [] below = tt
 above_first key (e ∷ es) below =
     let here = and_left (is_lt (key_order key e.0)) (below_all key_order key es) below in
     let rest = and_right (is_lt (key_order key e.0)) (below_all key_order key es) below in
     (not_greater key e.0 here, above_first key es rest)
 
-rising : (es : List Entry) → T (is_sorted key_order es) → Rises suite_on es
+rising : (es : List Standing) → T (is_sorted key_order es) → Rises suite_on es
 rising [] sorted = tt
 rising (e ∷ es) sorted =
     let below = and_left (below_all key_order e.0 es) (is_sorted key_order es) sorted in
@@ -137,7 +137,7 @@ rising (e ∷ es) sorted =
     (above_first e.0 es below, rising es rest)
 
 -- what is made of all that suites show, suite by suite
-pub made_by_suite : {X : Type 0} (f : Entry → X) (g : ℕ → Entry → X) → ((e : Entry) → f e ≡ g (suite_on e) e) → (n : ℕ) (shelves : ShelvesValue)
+pub made_by_suite : {X : Type 0} (f : Standing → X) (g : ℕ → Standing → X) → ((e : Standing) → f e ≡ g (suite_on e) e) → (n : ℕ) (shelves : ShelvesValue)
     → AllByRecursion (λ e. suite_on e < n) (entries shelves)
     → map f (entries shelves) ≡ flat_map (λ s. map (g s) (filter (λ e. nat_eq (suite_on e) s) (entries shelves))) (range_with_len 0 n)
 made_by_suite f g is n shelves below = made_by_number suite_on f g is n (entries shelves) (rising (entries shelves) (entries_sorted shelves)) below

@@ -1,4 +1,5 @@
 pub mod Course
+pub mod Fault
 pub mod Told
 pub mod Why
 pub mod Whole

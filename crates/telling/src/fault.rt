@@ -5,6 +5,7 @@ ghost use Rattle.book.specs.declared.fault.KeepFault.TheVariants.{OutOfMemory};
 ghost use Rattle.telling.specs.declared.fault.TellFault.TheVariants.{Keeper};
 
 use book::KeepFault;
+use history::Fault;
 use std::alloc::{AllocError, AllocFailed};
 
 /// Why a question is refused.
@@ -39,5 +40,20 @@ impl<T: Drop> From<AllocFailed<T>> for TellFault {
 
     fn from(_error: AllocFailed<T>) -> TellFault {
         TellFault::Keeper(KeepFault::OutOfMemory)
+    }
+}
+
+/// The fault of the archive that a refused question is.
+impl From<TellFault> for Fault {
+    ghost use Rattle.telling.specs.Fault.{fault_told};
+
+    ghost from_gives = { λ own fault. fault ≡ fault_told own };
+
+    fn from(fault: TellFault) -> Fault {
+        match fault {
+            TellFault::Keeper(fault) => Fault::from(fault),
+            TellFault::Moment => Fault::Moment,
+            TellFault::UnknownSuite => Fault::UnknownSuite,
+        }
     }
 }

@@ -5,7 +5,7 @@ use crate::steps::owned;
 use book::Keeper;
 use queue::{Archive, Fault};
 use std::alloc::Global;
-use telling::{Question, TellFault, tell};
+use telling::{Question, tell};
 use test_rows::{Unread, number_of, said, text_of};
 
 /// A name that may be left out.
@@ -44,15 +44,6 @@ fn question_of(alloc: Global, kind: &str, words: &[Vec<u8>]) -> Result<Question,
     }
 }
 
-/// Why a question is refused, as a fault of the archive.
-fn fault_of(fault: TellFault) -> Fault {
-    match fault {
-        TellFault::Keeper(fault) => Fault::from(fault),
-        TellFault::Moment => Fault::Moment,
-        TellFault::UnknownSuite => Fault::UnknownSuite,
-    }
-}
-
 /// `ask MOMENT KIND [NAME]`: the answer to a question, byte for byte, `nothing` if no upload has the name, or the fault.
 pub fn ask<K: Keeper>(
     alloc: Global,
@@ -67,6 +58,6 @@ pub fn ask<K: Keeper>(
     match tell(alloc, &mut archive.keeper, &question, moment) {
         Ok(Some(text)) => Ok(text),
         Ok(None) => said(alloc, "nothing"),
-        Err(fault) => refused_text(alloc, fault_of(fault)),
+        Err(fault) => refused_text(alloc, Fault::from(fault)),
     }
 }

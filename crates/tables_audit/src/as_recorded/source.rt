@@ -12,7 +12,7 @@ use crate::as_recorded::paths::path_of;
 use para::Text;
 use records::{Dsc, RecordFault};
 use std::alloc::{AllocError, Global};
-use suites::{Item, PoolFile, dsc_name};
+use suites::{Item, PoolFile, are_same_files, dsc_name};
 use sums::{Entry, print_of};
 
 /// Whether an item has the package, the source, the architecture and the version of a .dsc.
@@ -62,28 +62,6 @@ fn files_of(alloc: Global, item: &Item, dsc: &Dsc) -> Result<Vec<PoolFile>, Allo
     Ok(files)
 }
 
-/// Whether two files have one path and one print.
-fn is_same(one: &PoolFile, other: &PoolFile) -> bool
-    ensures { IsTrue result ↔ one.now ≡ other.now }
-{
-    one.path.as_str() == other.path.as_str() && one.print == other.print
-}
-
-/// Whether these files are the others, one after the other.
-fn are_same(ones: &[PoolFile], others: &[PoolFile]) -> bool
-    ensures { IsTrue result ↔ ones.now ≡ others.now }
-{
-    if ones.len() != others.len() {
-        return false;
-    }
-    for (index, one) in ones.iter().enumerate() {
-        if !is_same(one, &others[index]) {
-            return false;
-        }
-    }
-    true
-}
-
 /// Whether an item is the source of the .dsc that its paragraph is.
 fn is_source_of(alloc: Global, item: &Item, dsc: &Dsc) -> Result<bool, AllocError>
     requires { dsc_in item.now.paragraph ≡ Ok dsc.now }
@@ -93,7 +71,7 @@ fn is_source_of(alloc: Global, item: &Item, dsc: &Dsc) -> Result<bool, AllocErro
         return Ok(false);
     }
     let files = files_of(alloc, item, dsc)?;
-    Ok(are_same(item.files.as_slice(), &files))
+    Ok(are_same_files(item.files.as_slice(), &files))
 }
 
 /// Whether an item is the source that its paragraph describes.

@@ -1,5 +1,5 @@
 use Rattle.std.proofs.Common.{◌≡◌, take}
-use Rattle.tables_audit.proofs.as_recorded.source.are_same.Given as goal
+use Rattle.suites.proofs.item.are_same_files.Given as goal
 
 -- the files so far are the same
 abbrev pub invariant-loop-index : goal.invariant-loop-index
