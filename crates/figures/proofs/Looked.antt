@@ -13,7 +13,7 @@ use Rattle.book.proofs.Prints.{same_print-Decides}
 use Rattle.book.specs.declared.change.Waiting.{Waiting}
 use Rattle.sums.specs.Prints.{same_print}
 use Rattle.sums.specs.declared.print.Print.{Print}
-use Rattle.figures.specs.Keys.{HasPrints, HasSigns, is_sign_of, key_of, key_order, print_order, sign_order}
+use Rattle.figures.specs.Keys.{HasPrints, HasSigns, is_sign_of, key_of, print_key_order, print_order, sign_order}
 use Rattle.figures.specs.declared.key.PrintKey.{PrintKey}
 use Rattle.figures.specs.declared.key.Sign.{Sign}
 
@@ -40,11 +40,11 @@ chosen false b x y p q = q ∙ ap (λ t. t || y) p
 
 -- a set with one more print has the prints with that one
 pub has_more : (old new : BTreeSet PrintKey) (key : PrintKey) (p : Print) (prints : List Print) → key ≡ key_of p
-    → ((q : PrintKey) → contains_by (key_order q) new ≡ cond (is_eq (key_order key q)) true (contains_by (key_order q) old))
+    → ((q : PrintKey) → contains_by (print_key_order q) new ≡ cond (is_eq (print_key_order key q)) true (contains_by (print_key_order q) old))
     → HasPrints old prints → HasPrints new (p ∷ prints)
 has_more old new key p prints is more has q =
     more (key_of q)
-    ∙ chosen _ _ _ _ (ap (λ (k : PrintKey). is_eq (key_order k (key_of q))) is ∙ print_tied p q ∙ flipped same_print same_print-Decides p q) (has q)
+    ∙ chosen _ _ _ _ (ap (λ (k : PrintKey). is_eq (print_key_order k (key_of q))) is ∙ print_tied p q ∙ flipped same_print same_print-Decides p q) (has q)
 
 -- two signs tie exactly if they are of one name and print
 sign_tied : (s t : Sign) → is_eq (sign_order s t) ≡ (bytes_eq s.name t.name && same_print s.print t.print)

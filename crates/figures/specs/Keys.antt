@@ -24,11 +24,12 @@ print_order_total =
     then_total (then_total (then_total (on_total (λ (p : Print). p.size) nat_cmp_total) (on_total (λ (p : Print). p.md5) text_order_total)) (on_total (λ (p : Print). p.sha1) text_order_total))
     (on_total (λ (p : Print). p.sha256) text_order_total)
 
-abbrev pub key_order : PrintKey → PrintKey → Ordering
-key_order a b = print_order a.print b.print
+-- the same order of what is looked up by a print
+abbrev pub print_key_order : PrintKey → PrintKey → Ordering
+print_key_order a b = print_order a.print b.print
 
-pub key_order_total : IsTotalOrder key_order
-key_order_total = on_total (λ (k : PrintKey). k.print) print_order_total
+pub print_key_order_total : IsTotalOrder print_key_order
+print_key_order_total = on_total (λ (k : PrintKey). k.print) print_order_total
 
 -- the order of signs in a set: by name, then by print
 unfoldable pub sign_order : Sign → Sign → Ordering
@@ -43,7 +44,7 @@ key_of p = record { print = p }
 
 -- the set has exactly the prints of these
 abbrev pub HasPrints : BTreeSet PrintKey → List Print → Type 0
-HasPrints seen prints = (p : Print) → contains_by (key_order (key_of p)) seen ≡ list_any (same_print p) prints
+HasPrints seen prints = (p : Print) → contains_by (print_key_order (key_of p)) seen ≡ list_any (same_print p) prints
 
 -- the name and the print are those of the .changes of the upload
 abbrev pub is_sign_of : Sign → Waiting → Bool

@@ -29,11 +29,11 @@ pub struct PrintKey {
 
 impl Ord for PrintKey {
     ghost use Rattle.std.specs.Prelude.{refl};
-    ghost use Rattle.figures.specs.Keys.{key_order, key_order_total};
+    ghost use Rattle.figures.specs.Keys.{print_key_order, print_key_order_total};
 
-    ghost cmp = { key_order };
+    ghost cmp = { print_key_order };
 
-    ghost total = { key_order_total };
+    ghost total = { print_key_order_total };
 
     ghost matches_partial_cmp = { λ x y. refl };
 
@@ -46,11 +46,11 @@ impl Ord for PrintKey {
 
 impl PartialOrd for PrintKey {
     ghost use Rattle.std.specs.Cmp.{partial_order_from_total};
-    ghost use Rattle.figures.specs.Keys.{key_order, key_order_total};
+    ghost use Rattle.figures.specs.Keys.{print_key_order, print_key_order_total};
 
-    ghost partial_cmp = { as_partial_cmp key_order };
+    ghost partial_cmp = { as_partial_cmp print_key_order };
 
-    ghost laws = { partial_order_from_total key_order_total };
+    ghost laws = { partial_order_from_total print_key_order_total };
 
     fn partial_cmp(&self, other: &PrintKey) -> Option<Ordering> {
         Some(self.cmp(other))
@@ -59,11 +59,11 @@ impl PartialOrd for PrintKey {
 
 impl PartialEq for PrintKey {
     ghost use Rattle.std.specs.Cmp.{eq_by_cmp_equiv, partial_equiv_from_equiv};
-    ghost use Rattle.figures.specs.Keys.{key_order, key_order_total};
+    ghost use Rattle.figures.specs.Keys.{print_key_order, print_key_order_total};
 
-    ghost eq = { eq_by_cmp key_order };
+    ghost eq = { eq_by_cmp print_key_order };
 
-    ghost laws = { partial_equiv_from_equiv (eq_by_cmp_equiv key_order_total) };
+    ghost laws = { partial_equiv_from_equiv (eq_by_cmp_equiv print_key_order_total) };
 
     fn eq(&self, other: &PrintKey) -> bool {
         self.cmp(other) == Ordering::Equal
@@ -72,9 +72,9 @@ impl PartialEq for PrintKey {
 
 impl Eq for PrintKey {
     ghost use Rattle.std.specs.Cmp.{eq_by_cmp_equiv};
-    ghost use Rattle.figures.specs.Keys.{key_order, key_order_total};
+    ghost use Rattle.figures.specs.Keys.{print_key_order, print_key_order_total};
 
-    ghost laws = { eq_by_cmp_equiv key_order_total };
+    ghost laws = { eq_by_cmp_equiv print_key_order_total };
 }
 
 /// An upload by the name and the print of its .changes.

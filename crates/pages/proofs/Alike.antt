@@ -33,7 +33,7 @@ use Rattle.pages.specs.declared.uploads.TheConstants.{WAITING_HEAD, JUDGED_HEAD}
 use Rattle.pages.specs.Links.{address, link}
 use Rattle.pages.specs.IndexPage.{KeyValue, other_text, name_text, description_text, date_text_of, date_at, count_text, counts_text, word_text, words_text, state_text, key_link, known_key, key_text, option_text, field_text, apt_line, source_line, deb_lines, types_text, sources_text, section, sections_from}
 use Rattle.pages.specs.Markup.{markup, item_form, has_description_at, suite_form, lack_count}
-use Rattle.pages.specs.Meanings.{verdict_word, meaning}
+use Rattle.pages.specs.Meanings.{verdict_word, marked_meaning}
 use Rattle.pages.specs.Sites.{most_rows, page_path, upload_name, first_rows, newest, more_text}
 use Rattle.pages.specs.SuitePage.{known_line, first_line, synopsis, item_cell, size_text, file_link, file_text, files_cell, row_start, kind_word, item_row, description_at, summary}
 use Rattle.pages.specs.UploadsPage.{waiting_cell, lack_text, lacks_text, lacks_cell, upload_cell, waiting_row, verdict_cell, judged_row, waiting_table, waiting_part, judged_table, judged_part}
@@ -244,7 +244,7 @@ judged_rows : (site : Site) (j k : Judgement) → j.verdict ≡ k.verdict → Al
 unfolding judged_row
 judged_rows site j k h =
     both (both (both (both (itself (codes "<tr>")) (alike_at verdict_cell j.verdict k.verdict h)) (upload_cells site j.name k.name))
-    (alike_at (λ v. constant_cell (meaning v)) j.verdict k.verdict h)) (itself (codes "</tr>\n"))
+    (alike_at (λ v. constant_cell (marked_meaning v)) j.verdict k.verdict h)) (itself (codes "</tr>\n"))
 
 -- the forms of the rows that a table has
 module _ {X K : Type 0} (form : X → K) where

@@ -6,11 +6,11 @@ use Rattle.std.specs.Cmp.{IsTotalOrder, nat_cmp_total, then_total, on_total}
 use Rattle.suites.specs.KeyLemmas.{text_order_total}
 use Rattle.suites.specs.Keys.{kind_number}
 use Rattle.suites.specs.declared.item.Item.{Item}
-use Rattle.pages.specs.SuitePage.{row_order}
+use Rattle.pages.specs.SuitePage.{listing_order}
 
-pub row_order_total : IsTotalOrder row_order
-unfolding row_order
-row_order_total =
+pub listing_order_total : IsTotalOrder listing_order
+unfolding listing_order
+listing_order_total =
     then_total (on_total (λ (i : Item). i.source) text_order_total) (on_total (λ (i : Item). kind_number i.kind) nat_cmp_total)
 
 module _ {X Y : Type 0} (test : X → Bool) (view : X → Y) where

@@ -90,12 +90,12 @@ abbrev pub items_of : ShelvesValue → ℕ → List Item
 items_of shelves suite = map (λ a. a.1) (filter (is_of suite) (entries shelves))
 
 -- the order of rows: by the bytes of the source, and of one source the source itself before its packages
-unfoldable pub row_order : Item → Item → Ordering
-row_order a b = ordering_then (text_order a.source b.source) (nat_cmp (kind_number a.kind) (kind_number b.kind))
+unfoldable pub listing_order : Item → Item → Ordering
+listing_order a b = ordering_then (text_order a.source b.source) (nat_cmp (kind_number a.kind) (kind_number b.kind))
 
 -- what the suite at a position shows, in the order of rows; the packages of one source stand in the order of the shelves
 abbrev pub shown : ShelvesValue → ℕ → List Item
-shown shelves suite = sorted_by row_order (items_of shelves suite)
+shown shelves suite = sorted_by listing_order (items_of shelves suite)
 
 -- the rows of what the suite at a position shows
 unfoldable pub rows : ShelvesValue → ℕ → List ℕ

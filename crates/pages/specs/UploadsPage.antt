@@ -10,7 +10,7 @@ use Rattle.rules.specs.Values.{ConfigValue}
 use Rattle.rules.specs.declared.verdict.Verdict.{Verdict}
 use Rattle.pages.specs.Escapes.{escaped}
 use Rattle.pages.specs.Frame.{head_text, foot_text, constant_cell}
-use Rattle.pages.specs.Meanings.{tag, verdict_word, meaning}
+use Rattle.pages.specs.Meanings.{tag, verdict_word, marked_meaning}
 use Rattle.pages.specs.Sites.{upload_name, first_rows, newest, more_text}
 use Rattle.pages.specs.declared.site.Site.{Site}
 use Rattle.pages.specs.declared.uploads.TheConstants.{LINKS, WAITING_HEAD, JUDGED_HEAD, NOTHING_WAITS, NOTHING_JUDGED, WHOLE}
@@ -56,7 +56,7 @@ verdict_cell verdict = codes "<td>" ++ tag verdict ++ verdict_word verdict ++ co
 -- the row of a judged upload: its verdict, its name, and what the verdict means
 unfoldable pub judged_row : Site → Judgement → List ℕ
 judged_row site j =
-    codes "<tr>" ++ verdict_cell j.verdict ++ upload_cell site j.name ++ constant_cell (meaning j.verdict) ++ codes "</tr>\n"
+    codes "<tr>" ++ verdict_cell j.verdict ++ upload_cell site j.name ++ constant_cell (marked_meaning j.verdict) ++ codes "</tr>\n"
 
 -- the table of the uploads that wait, in their order
 unfoldable pub waiting_table : Site → List Waiting → List ℕ

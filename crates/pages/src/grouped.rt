@@ -2,7 +2,7 @@
 
 ghost use Rattle.std.specs.Prelude.{◌≡◌, ◌++◌, ◌∷◌, [], if◌then◌else◌, IfOk, OnOk, map};
 ghost use Rattle.book.specs.Sorted.{sorted_by};
-ghost use Rattle.pages.specs.SuitePage.{is_of, items_of, row_order, shown};
+ghost use Rattle.pages.specs.SuitePage.{is_of, items_of, listing_order, shown};
 
 use std::alloc::{AllocError, Global};
 use std::cmp::Ordering;
@@ -39,9 +39,9 @@ fn items_of<'s>(
 }
 
 /// The order of rows: by the bytes of the source, and of one source the source itself before its packages.
-#[tactic(auto, unfolding(crate::specs::SuitePage::row_order))]
-fn row_order(a: &Item, b: &Item) -> Ordering
-    ensures { result ≡ row_order a.now b.now }
+#[tactic(auto, unfolding(crate::specs::SuitePage::listing_order))]
+fn listing_order(a: &Item, b: &Item) -> Ordering
+    ensures { result ≡ listing_order a.now b.now }
 {
     a.source
         .as_str()
@@ -50,10 +50,10 @@ fn row_order(a: &Item, b: &Item) -> Ordering
 }
 
 /// Items in the order of rows. The packages of one source keep the order that they had.
-fn in_row_order<'s>(mut items: Vec<&'s Item>) -> Result<Vec<&'s Item>, AllocError>
-    ensures { IfOk result (λ sorted. map (λ i. i.now) sorted.items ≡ sorted_by row_order (map (λ i. i.now) items.entry.items)) }
+fn in_listing_order<'s>(mut items: Vec<&'s Item>) -> Result<Vec<&'s Item>, AllocError>
+    ensures { IfOk result (λ sorted. map (λ i. i.now) sorted.items ≡ sorted_by listing_order (map (λ i. i.now) items.entry.items)) }
 {
-    items.sort_by(|a, b| row_order(a, b))?;
+    items.sort_by(|a, b| listing_order(a, b))?;
     Ok(items)
 }
 
@@ -66,5 +66,5 @@ pub fn shown_items<'s>(
     ensures { IfOk result (λ items. map (λ i. i.now) items.items ≡ shown shelves.now suite) }
 {
     let items = items_of(alloc, shelves, suite)?;
-    in_row_order(items)
+    in_listing_order(items)
 }

@@ -8,7 +8,7 @@ use crate::escape::{push_markup, push_text};
 use crate::frame::{push_foot, push_head};
 use crate::site::{Site, first_rows, last_rows, push_more, push_upload_name};
 use crate::table::{TABLE_END, push_constant_cell};
-use crate::verdict::{meaning, tag, verdict_word};
+use crate::verdict::{marked_meaning, tag, verdict_word};
 use book::{Judgement, Lack, Waiting};
 use rules::{Config, Verdict};
 use std::alloc::{AllocError, Global};
@@ -222,7 +222,7 @@ fn push_judged(
     push_markup("<tr>", out)?;
     push_verdict_cell(judgement.verdict, out)?;
     push_upload_cell(alloc, site, judgement.name.as_str(), out)?;
-    push_constant_cell(meaning(judgement.verdict), out)?;
+    push_constant_cell(marked_meaning(judgement.verdict), out)?;
     push_markup("</tr>\n", out)
 }
 

@@ -1,7 +1,7 @@
 //! Verdicts in words. The sentences are those of docs/FAULTS.md.
 
 ghost use Rattle.std.specs.Prelude.{◌≡◌};
-ghost use Rattle.pages.specs.Meanings.{tag, verdict_word, meaning};
+ghost use Rattle.pages.specs.Meanings.{tag, verdict_word, marked_meaning};
 
 use rules::Verdict;
 
@@ -36,9 +36,9 @@ pub fn tag(verdict: Verdict) -> &'static str
 }
 
 /// What a verdict means, as markup.
-#[tactic(auto, unfolding(crate::specs::Meanings::meaning))]
-pub fn meaning(verdict: Verdict) -> &'static str
-    ensures { result.now ≡ meaning verdict }
+#[tactic(auto, unfolding(crate::specs::Meanings::marked_meaning))]
+pub fn marked_meaning(verdict: Verdict) -> &'static str
+    ensures { result.now ≡ marked_meaning verdict }
 {
     match verdict {
         Verdict::Accepted => {
@@ -48,7 +48,7 @@ pub fn meaning(verdict: Verdict) -> &'static str
             "No suite takes the distribution: it is no suite's Codename or Suite, and in no AlsoAcceptFor."
         }
         Verdict::ForeignArchitecture => {
-            "The suite does not keep an architecture of the .changes. An upload with sources needs <code>source</code> among the suite's; <code>all</code> needs one besides <code>source</code>."
+            "The suite does not keep an architecture of the .changes. An upload with sources needs <code>source</code> among the architectures of the suite; <code>all</code> needs an architecture besides <code>source</code> there."
         }
         Verdict::NotAllowed => {
             "The suite has Uploaders, and no line of them allows this source and this person."
@@ -60,10 +60,10 @@ pub fn meaning(verdict: Verdict) -> &'static str
             "The listed files are not those of an upload. A .deb has no .control of the same stem, or the reverse; a .changes is listed; with <code>source</code> among the architectures there is not exactly one .dsc; without it there is one, or any file but .deb and .control."
         }
         Verdict::BadDsc => {
-            "The .dsc is no record, or does not fit: its source or version is another, it is not named <code>SOURCE_VERSION.dsc</code> without the epoch, it lists a .dsc, .deb, .control or .changes, or a source file of the .changes is not in its list with the same size and digests."
+            "The .dsc can't be read, or it does not fit: its source or version is another, it is not named <code>SOURCE_VERSION.dsc</code> without the epoch, it lists a .dsc, .deb, .control or .changes, or a source file of the .changes is not in its list with the same size and digests."
         }
         Verdict::BadSidecar => {
-            "A sidecar is no record, or does not fit: it is not named <code>PACKAGE_VERSION_ARCHITECTURE.control</code> by its own fields, its architecture is not in the .changes, its source is another, or two are of one package and architecture."
+            "A sidecar can't be read, or it does not fit: it is not named <code>PACKAGE_VERSION_ARCHITECTURE.control</code> by its own fields, its architecture is not in the .changes, its source is another, or two are of one package and architecture."
         }
         Verdict::NotInPool => {
             "The .dsc lists a file that is neither in the .changes nor in the pool, at its place with the same size and digests."

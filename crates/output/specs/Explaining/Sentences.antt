@@ -17,12 +17,12 @@ verdict_words v = if is_accepted v then codes "accepted" else spaced (codes "ref
 unfoldable pub meaning : Verdict → List ℕ
 meaning verdict.Accepted = codes "The upload's packages were given to its suite, which shows of each the greatest version."
 meaning verdict.Unclaimed = codes "No suite takes the distribution: it is no suite's Codename or Suite, and in no AlsoAcceptFor."
-meaning verdict.ForeignArchitecture = codes "The suite does not keep an architecture of the .changes. An upload with sources needs `source` among the suite's; `all` needs one besides `source`."
+meaning verdict.ForeignArchitecture = codes "The suite does not keep an architecture of the .changes. An upload with sources needs `source` among the architectures of the suite; `all` needs an architecture besides `source` there."
 meaning verdict.NotAllowed = codes "The suite has Uploaders, and no line of them allows this source and this person."
 meaning verdict.ForeignComponent = codes "The listed files are of different components, or of one that the suite does not have. The component is what comes before the slash of a section, else `main`."
 meaning verdict.BadListing = codes "The listed files are not those of an upload. A .deb has no .control of the same stem, or the reverse; a .changes is listed; with `source` among the architectures there is not exactly one .dsc; without it there is one, or any file but .deb and .control."
-meaning verdict.BadDsc = codes "The .dsc is no record, or does not fit: its source or version is another, it is not named `SOURCE_VERSION.dsc` without the epoch, it lists a .dsc, .deb, .control or .changes, or a source file of the .changes is not in its list with the same size and digests."
-meaning verdict.BadSidecar = codes "A sidecar is no record, or does not fit: it is not named `PACKAGE_VERSION_ARCHITECTURE.control` by its own fields, its architecture is not in the .changes, its source is another, or two are of one package and architecture."
+meaning verdict.BadDsc = codes "The .dsc can't be read, or it does not fit: its source or version is another, it is not named `SOURCE_VERSION.dsc` without the epoch, it lists a .dsc, .deb, .control or .changes, or a source file of the .changes is not in its list with the same size and digests."
+meaning verdict.BadSidecar = codes "A sidecar can't be read, or it does not fit: it is not named `PACKAGE_VERSION_ARCHITECTURE.control` by its own fields, its architecture is not in the .changes, its source is another, or two are of one package and architecture."
 meaning verdict.NotInPool = codes "The .dsc lists a file that is neither in the .changes nor in the pool, at its place with the same size and digests."
 meaning verdict.OtherContents = codes "A .deb, a .dsc or a source file has a place in the pool where other contents are."
 

@@ -19,7 +19,7 @@ pub fn meaning(verdict: Verdict) -> &'static str
             "No suite takes the distribution: it is no suite's Codename or Suite, and in no AlsoAcceptFor."
         }
         Verdict::ForeignArchitecture => {
-            "The suite does not keep an architecture of the .changes. An upload with sources needs `source` among the suite's; `all` needs one besides `source`."
+            "The suite does not keep an architecture of the .changes. An upload with sources needs `source` among the architectures of the suite; `all` needs an architecture besides `source` there."
         }
         Verdict::NotAllowed => {
             "The suite has Uploaders, and no line of them allows this source and this person."
@@ -31,10 +31,10 @@ pub fn meaning(verdict: Verdict) -> &'static str
             "The listed files are not those of an upload. A .deb has no .control of the same stem, or the reverse; a .changes is listed; with `source` among the architectures there is not exactly one .dsc; without it there is one, or any file but .deb and .control."
         }
         Verdict::BadDsc => {
-            "The .dsc is no record, or does not fit: its source or version is another, it is not named `SOURCE_VERSION.dsc` without the epoch, it lists a .dsc, .deb, .control or .changes, or a source file of the .changes is not in its list with the same size and digests."
+            "The .dsc can't be read, or it does not fit: its source or version is another, it is not named `SOURCE_VERSION.dsc` without the epoch, it lists a .dsc, .deb, .control or .changes, or a source file of the .changes is not in its list with the same size and digests."
         }
         Verdict::BadSidecar => {
-            "A sidecar is no record, or does not fit: it is not named `PACKAGE_VERSION_ARCHITECTURE.control` by its own fields, its architecture is not in the .changes, its source is another, or two are of one package and architecture."
+            "A sidecar can't be read, or it does not fit: it is not named `PACKAGE_VERSION_ARCHITECTURE.control` by its own fields, its architecture is not in the .changes, its source is another, or two are of one package and architecture."
         }
         Verdict::NotInPool => {
             "The .dsc lists a file that is neither in the .changes nor in the pool, at its place with the same size and digests."
