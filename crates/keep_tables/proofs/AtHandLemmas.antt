@@ -2,6 +2,7 @@
 use Rattle.std.proofs.Common.{◌≡◌, ◌≢◌, ◌++◌, ℕ, Bool, true, false, true≢false, cond, not, if◌then◌else◌, List, [], ◌∷◌, filter, find, Option, None, Some, IfSome, Result, Ok, Err, is_ok, bytes_eq, Contains, inl, inr, refl, sym, ap, subst, ◌∙◌}
 use Rattle.std.specs.Option.{option_map}
 use Rattle.std.proofs.lemmas.List.Elements.{Contains-append_cases}
+use Rattle.std.proofs.lemmas.List.Sorted.{Contains-permutation}
 use Rattle.std.proofs.lemmas.Option.{same_Some}
 use Rattle.std.proofs.lemmas.Slice.Eq.{bytes_eq-Decides}
 use Rattle.std.proofs.lemmas.Bool.{not-true}
@@ -12,20 +13,23 @@ use Rattle.sums.specs.declared.print.Print.{Print}
 use Rattle.rules.specs.Values.{ConfigValue}
 use Rattle.suites.proofs.ListMembers.{from_filter}
 use Rattle.suites.specs.Shelves.{ShelvesValue}
-use Rattle.indices.specs.Indices.{index_text}
+use Rattle.indices.proofs.Apart.{found_of_apart}
+use Rattle.indices.specs.Indices.{PathText, all_texts, index_text}
 use Rattle.book.proofs.Prints.{same_print-Decides}
 use Rattle.book.specs.Book.{Book, amended, dates_past, is_kept, shown_past, text_at}
 use Rattle.book.specs.Keeping.{AreRenewed}
 use Rattle.book.specs.declared.change.Change.{Change}
 use Rattle.book.specs.declared.change.IndexText.{IndexText}
 use Rattle.book.specs.declared.change.Judgement.{Judgement}
-use Rattle.tables.specs.Rows.{tables_in}
+use Rattle.tables.specs.Rows.{Tables, tables_in}
 use Rattle.tables_meaning.specs.Archives.{KeepsArchive, book_in_database}
-use Rattle.tables_meaning.specs.Kept.{book_in}
+use Rattle.tables_meaning.specs.Kept.{IsBook, book_in}
 use Rattle.tables_meaning.specs.Shown.{shown_in}
 use Rattle.tables_meaning.proofs.CallLemmas.{shown_here}
+use Rattle.tables_meaning.proofs.PathLemmas.{config_paths}
+use Rattle.tables_audit.specs.TextRows.{ArePrintsOf, IsPrintAmong, texts_in}
 use Rattle.keep_tables.specs.AtHand.{AreAtHand, AreKnown, AreRenewedAtMost, NotesAtMost, is_of_another, is_print_of, is_renewed}
-use Rattle.keep_tables.specs.declared.text_prints.TextPrint.{TextPrint}
+use Rattle.tables_audit.specs.declared.text_print.TextPrint.{TextPrint}
 
 -- ---- shelves
 
@@ -47,6 +51,16 @@ still_at_hand old new spare kept are = subst (λ (s : ShelvesValue). IfSome spar
 -- no print is known
 pub none_known : (config : ConfigValue) (shown : ShelvesValue) (dates : List ℕ) (prints : List TextPrint) → prints ≡ [] → AreKnown config shown dates prints
 none_known config shown dates prints is p at = no_member p (subst (λ (xs : List TextPrint). Contains xs p) is at)
+
+-- prints of texts in the rows of an archive are those of the texts at their paths
+pub printed_known : (t : Tables) (config : ConfigValue) (judged : List Judgement) (shown : ShelvesValue) (dates : List ℕ) (prints : List TextPrint) → IsBook t config judged shown dates
+    → ArePrintsOf (texts_in t.texts) prints → AreKnown config shown dates prints
+unfolding index_text
+printed_known t config judged shown dates prints kept printed p at =
+    let all : List PathText = all_texts config shown dates in
+    let one : IsPrintAmong (texts_in t.texts) p = all_at (IsPrintAmong (texts_in t.texts)) prints p printed at in
+    let there : Contains all (p.path, one.text) = Contains-permutation (texts_in t.texts) all (p.path, one.text) kept.texts one.among in
+    ap (option_map print_of) (found_of_apart all (p.path, one.text) (config_paths config kept.read shown dates) there) ∙ ap Some (sym one.print)
 
 -- what is known stays so if another database keeps an archive that shows the same
 pub still_known : {config : ConfigValue} {judged : List Judgement} {other : List ℕ} (old new : Database) (dates : List ℕ) (prints : List TextPrint)

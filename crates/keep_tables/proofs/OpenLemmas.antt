@@ -30,8 +30,12 @@ use Rattle.tables_meaning.specs.Coming.{HasComing}
 use Rattle.tables_meaning.specs.Finished.{AreUnderWay, finished, is_unfinished, without_all}
 use Rattle.tables_meaning.specs.Transactions.{IsDone, IsUndone, MayCommit}
 use Rattle.keep_tables.specs.Finishing.{unfinished_ids}
+use Rattle.tables_audit.specs.TextRows.{ArePrintsOf, texts_in}
 use Rattle.tables_audit.specs.Whole.{KeepsNone, KeepsSome}
+use Rattle.tables_audit.specs.declared.text_print.TextPrint.{TextPrint}
+use Rattle.keep_tables.specs.AtHand.{AreKnown}
 use Rattle.keep_tables.specs.Opened.{HasUnfinished, IsArchiveOf, IsFinished, IsFound, IsNoArchive}
+use Rattle.keep_tables.proofs.AtHandLemmas.{printed_known}
 use Rattle.keep_tables.proofs.FinishLemmas.{finished_as}
 
 -- ---- of a database
@@ -93,6 +97,15 @@ found_shown t whole is config judged shown dates kept =
     sym (shown_is whole config.suites shown kept.items kept.sound.at_home (config_codenames config kept.read))
     ∙ ap (shown_in config.suites) is ∙ shown_finished config.suites t
 
+-- the whole rows have all texts
+pub printed_whole : (t whole : Tables) → whole ≡ finished t → (prints : List TextPrint) → ArePrintsOf (texts_in whole.texts) prints → ArePrintsOf (texts_in t.texts) prints
+unfolding finished
+printed_whole t whole is prints printed = subst (λ (u : Tables). ArePrintsOf (texts_in u.texts) prints) is printed
+
+printed_finished : (t : Tables) (prints : List TextPrint) → ArePrintsOf (texts_in t.texts) prints → ArePrintsOf (texts_in (finished t).texts) prints
+unfolding finished
+printed_finished t prints printed = printed
+
 -- ---- once the bodies that are not whole are removed
 
 rising : (db : Database) (t : Tables) → Holds db t → Rises t.bodies
@@ -132,6 +145,14 @@ module _ (s : State) (config : ConfigValue) (judged : List Judgement) (dates ids
       let held = finished_now new t found.archive.0 (now t found.archive.0) in
       archive_shown new config judged dates (is_archive new (finished t) held) (subst (λ u. KeepsSome u config judged dates) (sym (rows_finished_are new now)) found.archive.1)
       (rows_under_way new now)
+
+  -- the prints of texts in the rows are known
+  pub known_finished : (prints : List TextPrint) → ArePrintsOf (texts_in (tables_in s.now).texts) prints → (new : Database) → ((t : Tables) → Holds s.now t → Holds new (without_all ids t))
+      → ∥ AreKnown config (shown_in config.suites (tables_in new)) dates prints ∥₁
+  known_finished prints printed new now =
+      let here : ArePrintsOf (texts_in (finished (tables_in new)).texts) prints =
+      subst (λ (u : Tables). ArePrintsOf (texts_in u.texts) prints) (sym (rows_finished_are new now)) (printed_finished (tables_in s.now) prints printed) in
+      ∥∥₁_map (keeps_finished new now) (λ kept. printed_known (finished (tables_in new)) config judged (shown_in config.suites (tables_in new)) dates prints kept.kept here)
 
   -- no body is coming
   pub whole_finished : (new : Database) → ((t : Tables) → Holds s.now t → Holds new (without_all ids t)) → HasComing (tables_in new) []
@@ -184,6 +205,11 @@ module _ (s : State) (config : ConfigValue) (judged : List Judgement) (dates ids
   -- without any numbers the database is the archive's
   pub keeps_same : ids ≡ [] → ∥ KeepsArchive s.committed config judged (shown_in config.suites (tables_in s.committed)) dates ∥₁
   keeps_same none = keeps_finished s.committed (λ t held. subst (λ l. Holds s.committed (without_all l t)) (sym none) (subst (λ db. Holds db t) found.rests held))
+
+  -- without any numbers the prints are known
+  pub known_same : ids ≡ [] → (prints : List TextPrint) → ArePrintsOf (texts_in (tables_in s.now).texts) prints → ∥ AreKnown config (shown_in config.suites (tables_in s.committed)) dates prints ∥₁
+  known_same none prints printed =
+      known_finished prints printed s.committed (λ t held. subst (λ l. Holds s.committed (without_all l t)) (sym none) (subst (λ db. Holds db t) found.rests held))
 
   -- what is committed shows what was found
   pub shown_same : shown_in config.suites (tables_in s.committed) ≡ shown_in config.suites (tables_in s.now)

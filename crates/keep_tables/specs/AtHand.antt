@@ -11,7 +11,7 @@ use Rattle.indices.specs.Indices.{index_text}
 use Rattle.book.specs.declared.change.IndexText.{IndexText}
 use Rattle.tables.specs.Rows.{tables_in}
 use Rattle.tables_meaning.specs.Shown.{shown_in}
-use Rattle.keep_tables.specs.declared.text_prints.TextPrint.{TextPrint}
+use Rattle.tables_audit.specs.declared.text_print.TextPrint.{TextPrint}
 
 -- If shelves are at hand, they are what the rows show.
 abbrev pub AreAtHand : ConfigValue → Database → Option ShelvesValue → Type 0

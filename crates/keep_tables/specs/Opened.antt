@@ -7,6 +7,7 @@ use Rattle.book.specs.declared.change.Judgement.{Judgement}
 use Rattle.tables.specs.Rows.{Tables, Holds, IsArchive, tables_in}
 use Rattle.tables_meaning.specs.Finished.{AreUnderWay, finished, is_unfinished}
 use Rattle.tables_meaning.specs.Shown.{shown_in}
+use Rattle.tables_audit.specs.TextRows.{ArePrintsOf, texts_in}
 use Rattle.tables_audit.specs.Whole.{KeepsNone, KeepsSome}
 use Rattle.keep_tables.specs.Finishing.{unfinished_ids}
 use Rattle.keep_tables.specs.declared.opening.Found.{Found}
@@ -27,6 +28,10 @@ FindsArchive old new found = IsUnchanged old new × IsArchiveOf old.now found.he
 -- The rows show what was found to be shown.
 abbrev pub ShowsFound : Tables → Found → Type 0
 ShowsFound t found = found.held.shelves ≡ shown_in found.held.config.suites t
+
+-- The prints that were found are of texts in the rows, at their paths.
+abbrev pub HasPrintsFound : Tables → Found → Type 0
+HasPrintsFound t found = ArePrintsOf (texts_in t.texts) found.held.prints.items
 
 -- The database keeps no archive, whatever it shows: if the pieces of the bodies that are not whole are as those of whole ones,
 -- the rows without these bodies are not those of an archive.

@@ -28,7 +28,7 @@ use crate::reads::{
     read_arrivals, read_arrived, read_due, read_file, read_file_piece, read_kept, read_nothing,
     read_print, read_text, read_waiting, show,
 };
-use crate::text_prints::{TextPrint, known_print, note_print, renew_prints};
+use crate::text_prints::{known_print, note_print, renew_prints};
 use book::{
     ArrivedFile, Change, Configured, FilePiece, IndexText, Judgement, KeepFault, Keeper, LATEST,
     PIECE_SIZE, Waiting, append_judgements, copied_judgements, dates_after, room_for_judgements,
@@ -38,6 +38,7 @@ use sqlite::{Alter, Connection};
 use std::alloc::Global;
 use suites::{Shelves, Upload};
 use sums::{Print, Printer, print_of};
+use tables_audit::TextPrint;
 use tables_bodies::{Begun, Finished, OnePiece, some_take_files};
 use tables_changes::{create, is_without_tables};
 use tables_counting::span_of;
@@ -121,20 +122,21 @@ impl<S: Alter + Drop> TableKeeper<S> {
 
     /// The keeper over a database whose archive is of this configuration, with these judged uploads in order, and for each suite
     /// in the order of the configuration the moment at which what it shows last changed. Each of its bodies is whole. What the
-    /// suites show may be handed over too.
+    /// suites show may be handed over too, and prints of index texts.
     pub fn over(
-        alloc: Global,
         connection: Connection<S>,
         config: Config,
         judged: Vec<Judgement>,
         dates: Vec<u64>,
         spare: Option<Shelves>,
+        prints: Vec<TextPrint>,
     ) -> TableKeeper<S>
         requires idle { connection.in_transaction ≡ false }
         requires in_range { ∥ All (λ date. date ≤ LATEST) dates.items ∥₁ }
         requires kept { WhileOpen S.Store connection (λ now. ∥ KeepsArchive now.committed config judged.items (shown_in config.suites (tables_in now.committed)) dates.items ∥₁) }
         requires whole { WhileOpen S.Store connection (λ now. HasComing (tables_in now.committed) []) }
         requires shown { WhileOpen S.Store connection (λ now. AreAtHand config now.committed spare) }
+        requires known { WhileOpen S.Store connection (λ now. ∥ AreKnown config (shown_in config.suites (tables_in now.committed)) dates.items prints.items ∥₁) }
         ensures { (result.conn ≡ connection) × (result.config ≡ config) × (result.judged ≡ judged) × (result.dates ≡ dates) }
     {
         TableKeeper {
@@ -144,7 +146,7 @@ impl<S: Alter + Drop> TableKeeper<S> {
             dates,
             begun: None,
             spare,
-            prints: Vec::new(alloc),
+            prints,
         }
     }
 

@@ -1,4 +1,7 @@
 //! Opens an archive that a database keeps.
+//!
+//! The texts of the indices are made anew, to be compared with the rows, and those that Release lists are hashed. The keeper is handed
+//! their prints, and what the suites show, so that the first run after an opening need not find them out again.
 
 ghost use Rattle.std.specs.Prelude.{◌≡◌, ◌≢◌, None, false, IfOk, IfErr, OnErr};
 ghost use Rattle.sqlite.specs.State.{HasCleanDisk, Survives};
@@ -15,7 +18,8 @@ ghost use Rattle.tables_meaning.specs.Shown.{shown_in};
 ghost use Rattle.tables_meaning.specs.Transactions.{MayCommit};
 ghost use Rattle.tables_audit.specs.Whole.{KeepsNone, KeepsSome};
 ghost use Rattle.keep_tables.specs.Finishing.{unfinished_ids};
-ghost use Rattle.keep_tables.specs.Opened.{HasUnfinished, FindsArchive, IfFound, IsFound, IsNoArchive, ShowsFound};
+ghost use Rattle.keep_tables.specs.AtHand.{AreKnown};
+ghost use Rattle.keep_tables.specs.Opened.{HasUnfinished, FindsArchive, HasPrintsFound, IfFound, IsFound, IsNoArchive, ShowsFound};
 ghost use Rattle.tables.specs.Calls.{NeverCommits, OnCleanDisk};
 ghost use Rattle.tables_meaning.specs.Calls.{WhileOpen};
 ghost use Rattle.keep_tables.specs.Calls.{FaultLeaves, GivesBack, RefusesBusy, RefusesNoArchive, SaysWhy};
@@ -47,6 +51,7 @@ fn found_in(alloc: Global, all: AllRows) -> Result<Option<Found>, AllocError>
     ensures some { AreConstrained (tables_with all) → IfFound result (λ found. KeepsSome (finished (tables_with all)) found.held.config found.held.judged.items found.held.dates.items
         × AreUnderWay (tables_with all) × (found.unfinished.items ≡ unfinished_ids (tables_with all).bodies)) }
     ensures shown { AreConstrained (tables_with all) → IfFound result (ShowsFound (tables_with all)) }
+    ensures printed { IfFound result (HasPrintsFound (tables_with all)) }
     ensures none { AreConstrained (tables_with all) → Rises (tables_with all).bodies → IfOk result (λ o. o ≡ None → AreReadable (tables_with all) → AreUnderWay (tables_with all)
         → KeepsNone (finished (tables_with all))) }
 {
@@ -71,6 +76,7 @@ fn archive_of<S: InOrder>(alloc: Global, conn: &mut Connection<S>) -> Result<Opt
     ensures idle { conn.old.in_transaction ≡ false → conn.new.in_transaction ≡ false }
     ensures some { OnCleanDisk S.Store conn.old conn.new (λ old new. IfFound result (FindsArchive old new)) }
     ensures shown { OnCleanDisk S.Store conn.old conn.new (λ old new. IfFound result (ShowsFound (tables_in old.now))) }
+    ensures printed { OnCleanDisk S.Store conn.old conn.new (λ old new. IfFound result (HasPrintsFound (tables_in old.now))) }
     ensures none { OnCleanDisk S.Store conn.old conn.new (λ old new. IfOk result (λ o. o ≡ None → Stands old new × IsNoArchive old.now)) }
     ensures err { OnCleanDisk S.Store conn.old conn.new (λ old new. OnErr result (Fails old new)) }
     ensures cause { OnCleanDisk S.Store conn.old conn.new (λ old new. IfErr result (IsCaused old new)) }
@@ -90,6 +96,7 @@ fn find_archive<S: InOrder>(alloc: Global, conn: &mut Connection<S>) -> Result<O
     ensures idle { conn.old.in_transaction ≡ false → conn.new.in_transaction ≡ false }
     ensures some { OnCleanDisk S.Store conn.old conn.new (λ old new. IfFound result (FindsArchive old new)) }
     ensures shown { OnCleanDisk S.Store conn.old conn.new (λ old new. IfFound result (ShowsFound (tables_in old.now))) }
+    ensures printed { OnCleanDisk S.Store conn.old conn.new (λ old new. IfFound result (HasPrintsFound (tables_in old.now))) }
     ensures none { OnCleanDisk S.Store conn.old conn.new (λ old new. IfOk result (λ o. o ≡ None → Stands old new × IsNoArchive old.now)) }
     ensures err { OnCleanDisk S.Store conn.old conn.new (λ old new. OnErr result (Fails old new)) }
     ensures cause { OnCleanDisk S.Store conn.old conn.new (λ old new. IfErr result (IsCaused old new)) }
@@ -102,15 +109,12 @@ fn find_archive<S: InOrder>(alloc: Global, conn: &mut Connection<S>) -> Result<O
 }
 
 /// The keeper over the tables of an archive whose bodies are whole.
-fn keeper_over<S: Alter + Drop>(
-    alloc: Global,
-    connection: Connection<S>,
-    held: Held,
-) -> TableKeeper<S>
+fn keeper_over<S: Alter + Drop>(connection: Connection<S>, held: Held) -> TableKeeper<S>
     requires idle { connection.in_transaction ≡ false }
     requires kept { WhileOpen S.Store connection (λ now. ∥ KeepsArchive now.committed held.config held.judged.items (shown_in held.config.suites (tables_in now.committed)) held.dates.items ∥₁) }
     requires whole { WhileOpen S.Store connection (λ now. NothingComes now.committed) }
     requires shown { WhileOpen S.Store connection (λ now. held.shelves ≡ shown_in held.config.suites (tables_in now.committed)) }
+    requires known { WhileOpen S.Store connection (λ now. ∥ AreKnown held.config (shown_in held.config.suites (tables_in now.committed)) held.dates.items held.prints.items ∥₁) }
     ensures conn { result.conn ≡ connection }
     ensures held { (result.config ≡ held.config) × (result.judged ≡ held.judged) × (result.dates ≡ held.dates) }
 {
@@ -119,19 +123,20 @@ fn keeper_over<S: Alter + Drop>(
         judged,
         dates,
         shelves,
+        prints,
     } = held;
-    TableKeeper::over(alloc, connection, config, judged, dates, Some(shelves))
+    TableKeeper::over(connection, config, judged, dates, Some(shelves), prints)
 }
 
 /// The keeper of an archive that was found. The bodies that are not whole are removed first.
 fn keeper_of<S: Alter + Drop>(
-    alloc: Global,
     mut connection: Connection<S>,
     found: Found,
 ) -> Result<TableKeeper<S>, (Connection<S>, KeepFault)>
     requires idle { connection.in_transaction ≡ false }
     requires found { HasCleanDisk (state S.Store connection) → IsFound (state S.Store connection) found.held.config found.held.judged.items found.held.dates.items found.unfinished.items }
     requires shown { HasCleanDisk (state S.Store connection) → ShowsFound (tables_in (state S.Store connection).now) found }
+    requires printed { HasCleanDisk (state S.Store connection) → HasPrintsFound (tables_in (state S.Store connection).now) found }
     ensures opened { OpensFinished S.Store connection result }
     ensures fault { IfErr result (λ e. e.1 ≢ NoArchive) }
     ensures told { IfErr result (λ e. HasCleanDisk (state S.Store e.0) → HasUnfinished (state S.Store connection).now) }
@@ -141,10 +146,10 @@ fn keeper_of<S: Alter + Drop>(
 {
     let Found { held, unfinished } = found;
     if unfinished.is_empty() {
-        return Ok(keeper_over(alloc, connection, held));
+        return Ok(keeper_over(connection, held));
     }
     match remove_all(&mut connection, &unfinished) {
-        Ok(()) => Ok(keeper_over(alloc, connection, held)),
+        Ok(()) => Ok(keeper_over(connection, held)),
         Err(failure) => Err((connection, fault_of(failure))),
     }
 }
@@ -172,7 +177,7 @@ impl<S: InOrder + Drop> TableKeeper<S> {
             return Err((connection, KeepFault::NoArchive));
         }
         match find_archive(alloc, &mut connection) {
-            Ok(Some(found)) => keeper_of(alloc, connection, found),
+            Ok(Some(found)) => keeper_of(connection, found),
             Ok(None) => Err((connection, KeepFault::NoArchive)),
             Err(error) => Err((connection, fault_of(error))),
         }

@@ -1,9 +1,11 @@
 //! The prints of index texts that are known.
 //!
-//! The keeper has the print of each index text that it was asked for (`text_print`), and of each that a change wrote, as far as there is
-//! memory. A change names the print of a text beside it (`IndexText`), since Release lists it anyway. So an index that stays as it is is
-//! hashed at most once after an opening. One that a run makes anew is compared with the text that is there by the prints, and that text is
-//! read only if its print is not known, or is the same (`keeps_text`). Texts of two prints differ, so this needs no premise.
+//! An opening hands over the print of each index text that Release lists, since it has to make Release anyway (`Held`). Besides these the
+//! keeper has the print of each text that it was asked for (`text_print`), and of each that a change wrote, as far as there is memory. A
+//! change names the print of a text beside it (`IndexText`). So an index that stays as it is is neither read nor hashed after an opening.
+//! One that a run makes anew is compared with the text that is there by the prints, and that text is read only if its print is not known,
+//! or is the same (`keeps_text`). Texts of two prints differ, so this needs no premise. A new archive and one that a migration made start
+//! without prints, and so does a new configuration.
 
 ghost use Rattle.std.specs.Prelude.{◌≡◌, filter, find, not, option_copied};
 ghost use Rattle.std.specs.Option.{option_map};
@@ -13,13 +15,7 @@ use book::IndexText;
 use para::Text;
 use std::alloc::Global;
 use sums::Print;
-
-/// The print of the index text at a path.
-#[derive(Drop)]
-pub struct TextPrint {
-    pub path: Text,
-    pub print: Print,
-}
+use tables_audit::TextPrint;
 
 /// What is known of the text at a path.
 fn known_at<'a>(prints: &'a [TextPrint], path: &str) -> Option<&'a TextPrint>

@@ -63,7 +63,7 @@ pub fn migrate<S: Alter + Drop>(
     // For the prover alone: the configuration is what its text spells.
     let _ = config.text();
     match write_archive(alloc, &mut to, old, &config, moment) {
-        Ok(()) => Ok(TableKeeper::over(alloc, to, config, judged, dates, None)),
+        Ok(()) => Ok(TableKeeper::over(to, config, judged, dates, None, Vec::new(alloc))),
         Err(error) => Err((to, fault_of(error))),
     }
 }

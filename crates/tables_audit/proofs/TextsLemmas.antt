@@ -1,9 +1,8 @@
 -- The texts of suites, row after row.
-use Rattle.std.proofs.Common.{◌≡◌, ◌≢◌, ◌↔◌, ◌<◌, ◌≤◌, ℕ, zero, suc, ◌+◌, ◌-◌, ◌==◌, false, IsTrue, List, [], ◌∷◌, ◌++◌, map, codes, length, drop, get_or, Option, Some, slice_get, IsPermutation, refl, sym, ap, subst, ◌∙◌, arith}
+use Rattle.std.proofs.Common.{◌≡◌, ◌≢◌, ◌↔◌, ◌<◌, ◌≤◌, ℕ, zero, suc, ◌+◌, ◌-◌, true, false, IsTrue, List, [], ◌∷◌, ◌++◌, map, codes, length, drop, get_or, Option, Some, slice_get, IsPermutation, refl, sym, ap, subst, ◌∙◌, arith}
 use Rattle.std.specs.List.{AllByRecursion, zip}
 use Rattle.std.specs.Option.{IfSome, option_map_or}
 use Rattle.std.specs.Prelude.{All, AllPairs, Contains}
-use Rattle.std.proofs.lemmas.Bool.{eq-eqb, eqb-true}
 use Rattle.std.proofs.lemmas.List.{drop_all, length-append, length-map}
 use Rattle.std.proofs.lemmas.List.Elements.{All-append, All-cons, All-from_recursion, All-nil, recursion_from_All}
 use Rattle.std.proofs.lemmas.List.Sorted.{Contains-permutation, IsPermutation-sym, length_permutation}
@@ -19,10 +18,12 @@ use Rattle.indices.proofs.Apart.{PathsDiffer}
 use Rattle.indices.specs.Indices.{PathText, folder_texts, suite_texts, texts_from}
 use Rattle.indices.specs.Positions.{release_at}
 use Rattle.indices.specs.Release.{index_of, indices_of, listed_texts, release_text}
+use Rattle.indices.specs.declared.index.Index.{Index}
 use Rattle.tables_meaning.specs.Founding.{from_root, suite_texts_at}
 use Rattle.tables_meaning.proofs.Orders.{contained_permutes}
 use Rattle.tables_matching.specs.Rows.{text_in}
-use Rattle.tables_audit.specs.TextRows.{texts_in}
+use Rattle.tables_audit.specs.TextRows.{ArePrintsOf, IsPrintAmong, print_from_root, texts_in}
+use Rattle.tables_audit.specs.declared.text_print.TextPrint.{TextPrint}
 
 -- ---- each of several
 
@@ -60,9 +61,14 @@ all_of_suite C suite others first whole = (
   λ both. subst (All C) (sym whole) (All-cons C first others both.0 both.1),
 )
 
--- nothing is left
-pub none_more : {P X : Type 0} (C : X → Type 0) (left : ℕ) → (P ↔ (All C [] × (left ≡ 0))) → IsTrue (left == 0) ↔ P
-none_more C left h = (λ t. h.1 (All-nil C, eqb-true left 0 t), λ p. eq-eqb left 0 (h.0 p).1)
+module _ {P X : Type 0} (C : X → Type 0) (left : ℕ) (h : P ↔ (All C [] × (left ≡ 0))) where
+  -- nothing is left
+  pub none_more : left ≡ 0 → IsTrue true ↔ P
+  none_more none = (λ _. h.1 (All-nil C, none), λ _. refl)
+
+  -- something is left
+  pub some_more : 0 < left → IsTrue false ↔ P
+  some_more some = (λ no. absurd (cc no), λ p. absurd (omega (arith, (h.0 p).1, some)))
 
 -- ---- rows in any order
 
@@ -127,3 +133,24 @@ suite_texts_made config shelves position date s release made here are first =
 -- what a clause says of the value there
 pub some_case : {X : Type 0} (o : Option X) (P : X → Type 0) (x : X) → IfSome o P → o ≡ Some x → P x
 some_case o P x h e = subst (λ u. IfSome u P) e h
+
+-- ---- prints
+
+-- what Release lists of texts that are among these are prints of these
+prints_listed : (texts : List PathText) (s : Suite) (es : List PathText) → All (Contains texts) (map (from_root s) es) → ArePrintsOf texts (map (print_from_root s) (map index_of es))
+prints_listed texts s [] all = All-nil (IsPrintAmong texts)
+prints_listed texts s (e ∷ es) all =
+    let parts = recursion_from_All (Contains texts) (from_root s e ∷ map (from_root s) es) all in
+    All-cons (IsPrintAmong texts) (print_from_root s (index_of e)) (map (print_from_root s) (map index_of es))
+    (record { text = e.1; among = parts.0; print = refl }) (prints_listed texts s es (All-from_recursion (Contains texts) (map (from_root s) es) parts.1))
+
+-- with the prints of one more suite all are prints of these texts
+pub prints_more : (texts : List PathText) (s : Suite) (es : List PathText) (indices : List Index) (old new : List TextPrint) → All (Contains texts) (map (from_root s) es) → indices ≡ map index_of es
+    → new ≡ old ++ map (print_from_root s) indices → ArePrintsOf texts old → ArePrintsOf texts new
+prints_more texts s es indices old new all are more known =
+    subst (ArePrintsOf texts) (sym (more ∙ ap (λ xs. old ++ map (print_from_root s) xs) are))
+    (All-append (IsPrintAmong texts) old (map (print_from_root s) (map index_of es)) known (prints_listed texts s es all))
+
+-- at first there are no prints
+pub no_prints : (texts : List PathText) (prints : List TextPrint) → prints ≡ [] → ArePrintsOf texts prints
+no_prints texts prints none = subst (ArePrintsOf texts) (sym none) (All-nil (IsPrintAmong texts))

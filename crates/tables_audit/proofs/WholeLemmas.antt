@@ -1,5 +1,5 @@
 -- From the parts of an archive to the whole, and back.
-use Rattle.std.proofs.Common.{◌≡◌, ℕ, true, false, List, [], ◌∷◌, Option, None, Some, Result, Ok, Err, IfErr, IfOk, IfSome, IsTrue, is_some, length, map, IsPermutation, sym, ap, subst, ◌∙◌, arith}
+use Rattle.std.proofs.Common.{◌≡◌, ℕ, true, false, true≢false, refl, List, [], ◌∷◌, Option, None, Some, Result, Ok, Err, IfErr, IfOk, IfSome, IsTrue, is_some, length, map, IsPermutation, sym, ap, subst, ◌∙◌, arith}
 use Rattle.std.specs.List.{zip}
 use Rattle.rules.specs.Configuration.{config_in}
 use Rattle.rules.specs.Values.{ConfigValue}
@@ -42,6 +42,12 @@ err_both P Q R (Err e) f h k = f e h k
 
 pub at_some : {X : Type 0} (P : X → Type 0) (o : Option X) (x : X) → o ≡ Some x → IfSome o P → P x
 at_some P o x is h = subst (λ p. IfSome p P) is h
+
+pub some_there : {X : Type 0} (o : Option X) (x : X) → o ≡ Some x → IsTrue (is_some o)
+some_there o x is = subst (λ p. IsTrue (is_some p)) (sym is) refl
+
+pub none_there : {X : Type 0} (o : Option X) → o ≡ None → IsTrue (is_some o) → ⊥
+none_there o is some = true≢false (sym (subst (λ p. IsTrue (is_some p)) is some))
 
 -- ---- the parts make the whole
 

@@ -1,9 +1,12 @@
-//! Whether the rows of `texts` are the texts of the suites.
+//! Whether the rows of `texts` are the texts of the suites, and the prints of those that Release lists.
+//!
+//! Release lists the print of each other text of its suite, so these are known once it is made. An opening hands them over
+//! (`Held`), and so a keeper need not read and hash the texts once more.
 
-ghost use Rattle.std.specs.Prelude.{◌≡◌, ◌≤◌, ◌<◌, ◌↔◌, All, Contains, None, length, map, codes, IsPermutation, IsTrue, IfOk, IfSome};
+ghost use Rattle.std.specs.Prelude.{◌≡◌, ◌≤◌, ◌<◌, ◌↔◌, ◌++◌, All, Contains, None, length, map, codes, is_some, IsPermutation, IsTrue, IfOk, IfSome, OnOk};
 ghost use Rattle.tables_meaning.specs.Founding.{from_root, suite_texts_at};
 ghost use Rattle.tables_matching.specs.Rows.{text_in};
-ghost use Rattle.tables_audit.specs.TextRows.{texts_in};
+ghost use Rattle.tables_audit.specs.TextRows.{ArePrintsOf, print_from_root, texts_in};
 ghost use Rattle.tables.specs.Rows.{rows_of};
 ghost use Rattle.tables_read.specs.All.{tables_with};
 ghost use Rattle.indices.specs.Indices.{all_texts};
@@ -12,6 +15,7 @@ ghost use Rattle.indices.specs.Positions.{release_at};
 ghost use Rattle.indices.specs.Release.{index_of, listed_texts};
 ghost use Rattle.sums.specs.Prints.{print as print_of_text};
 
+use crate::text_print::TextPrint;
 use book::LATEST;
 use para::{Listed, Text};
 use rules::{Config, Suite};
@@ -132,16 +136,14 @@ fn release_over(
     config: &Config,
     position: usize,
     moment: u64,
-    entries: &[TextRow],
+    indices: &[Index],
 ) -> Result<TextRow, AllocError>
     requires suite { position < length config.now.suites }
     requires moment { moment ≤ LATEST }
-    ensures { IfOk result (λ x. text_in x
-        ≡ (codes "Release", release_at config.now position moment (map index_of (map text_in entries.now)))) }
+    ensures { IfOk result (λ x. text_in x ≡ (codes "Release", release_at config.now position moment indices.now)) }
 {
-    let indices = indices_of(alloc, entries)?;
     let mut text = Vec::new(alloc);
-    release(alloc, config, position, moment, &indices, &mut text)?;
+    release(alloc, config, position, moment, indices, &mut text)?;
     Ok(TextRow {
         path: Text::new(alloc, "Release")?,
         body: Listed::from_vec(text),
@@ -207,8 +209,28 @@ fn have_texts(
     Ok(true)
 }
 
+/// Appends the prints that Release lists of the other texts of the suite, each at the whole path of its text.
+fn push_prints(
+    alloc: Global,
+    suite: &Suite,
+    indices: &[Index],
+    prints: &mut Vec<TextPrint>,
+) -> Result<(), AllocError>
+    ensures { OnOk result (prints.new.items ≡ prints.old.items ++ map (print_from_root suite.now) indices.now) }
+{
+    for index in indices {
+        let path = path_in(alloc, suite.codename.as_str(), index.path.as_str())?;
+        prints.push(TextPrint {
+            path: Text::from_string(path),
+            print: index.print,
+        })?;
+    }
+    Ok(())
+}
+
 /// How many texts the suite at the position has, whose shown items last changed at the moment, if rows have each of them:
-/// Release, and the others. The rows from the place on are looked at first, and no text is made twice.
+/// Release, and the others. The rows from the place on are looked at first, and no text is made twice. If rows have each,
+/// the prints of the others are appended to those of the suites before.
 fn texts_of_suite(
     alloc: Global,
     rows: &[(u64, TextRow)],
@@ -217,6 +239,7 @@ fn texts_of_suite(
     shelves: &Shelves,
     position: usize,
     moment: u64,
+    prints: &mut Vec<TextPrint>,
 ) -> Result<Option<usize>, AllocError>
     requires suite { position < length config.now.suites }
     requires moment { moment ≤ LATEST }
@@ -225,63 +248,82 @@ fn texts_of_suite(
         × All (Contains (texts_in rows.now)) (suite_texts_at config.now shelves.now position moment))) }
     ensures none { IfOk result (λ o. o ≡ None
         → All (Contains (texts_in rows.now)) (suite_texts_at config.now shelves.now position moment) → ⊥) }
+    ensures known { IfOk result (λ o. IfSome o (λ _. ArePrintsOf (texts_in rows.now) prints.old.items
+        → ArePrintsOf (texts_in rows.now) prints.new.items)) }
 {
     let suite = &config.suites()[position];
     let entries = listed_entries(alloc, shelves, position, suite)?;
-    let release = release_over(alloc, config, position, moment, &entries)?;
+    let indices = indices_of(alloc, &entries)?;
+    let release = release_over(alloc, config, position, moment, &indices)?;
     if !has_text(alloc, rows, place, suite, &release)? {
         return Ok(None);
     }
     if !have_texts(alloc, rows, place.saturating_add(1), suite, &entries)? {
         return Ok(None);
     }
+    push_prints(alloc, suite, &indices, prints)?;
     Ok(Some(entries.len() + 1))
 }
 
-/// Whether rows are the texts of the suites of a configuration, whose shown items last changed at these dates, in whatever
-/// order: each is looked up as it is made, suite by suite, and there is no other row.
+/// The prints of the texts that Release lists, if rows are the texts of the suites of a configuration, whose shown items last
+/// changed at these dates, in whatever order: each is looked up as it is made, suite by suite, and there is no other row.
 fn are_texts(
     alloc: Global,
     rows: &[(u64, TextRow)],
     config: &Config,
     shelves: &Shelves,
     dates: &[u64],
-) -> Result<bool, AllocError>
+) -> Result<Option<Vec<TextPrint>>, AllocError>
     requires dated { length dates.now ≡ length config.now.suites }
     requires in_range { All (λ d. d ≤ LATEST) dates.now }
-    ensures { IfOk result (λ b. IsTrue b ↔ IsPermutation (texts_in rows.now) (all_texts config.now shelves.now dates.now)) }
+    ensures fit { IfOk result (λ o. IsTrue (is_some o) ↔ IsPermutation (texts_in rows.now) (all_texts config.now shelves.now dates.now)) }
+    ensures known { IfOk result (λ o. IfSome o (λ prints. ArePrintsOf (texts_in rows.now) prints.items)) }
 {
     // For the prover alone: the configuration is what its text spells, so no two texts have one path.
     let _ = config.text();
+    let mut prints = Vec::new(alloc);
     let mut left = rows.len();
     for position in 0..dates.len() {
         let moment = dates[position];
         let place = rows.len() - left;
-        let found = texts_of_suite(alloc, rows, place, config, shelves, position, moment)?;
+        let found = texts_of_suite(
+            alloc,
+            rows,
+            place,
+            config,
+            shelves,
+            position,
+            moment,
+            &mut prints,
+        )?;
         let Some(count) = found else {
-            return Ok(false);
+            return Ok(None);
         };
         if count > left {
-            return Ok(false);
+            return Ok(None);
         }
         left -= count;
     }
-    Ok(left == 0)
+    if left > 0 {
+        return Ok(None);
+    }
+    Ok(Some(prints))
 }
 
-/// Whether the rows of `texts` are the texts of the suites of a configuration, whose shown items last changed at these
-/// dates, in whatever order.
+/// The prints of the texts that Release lists, if the rows of `texts` are the texts of the suites of a configuration, whose
+/// shown items last changed at these dates, in whatever order.
 pub fn are_texts_of(
     alloc: Global,
     all: &AllRows,
     config: &Config,
     shelves: &Shelves,
     dates: &[u64],
-) -> Result<bool, AllocError>
+) -> Result<Option<Vec<TextPrint>>, AllocError>
     requires dated { length dates.now ≡ length config.now.suites }
     requires in_range { All (λ d. d ≤ LATEST) dates.now }
-    ensures { IfOk result (λ b. IsTrue b ↔ IsPermutation (map (λ x. (x.path, x.body)) (rows_of (tables_with all.now).texts))
+    ensures fit { IfOk result (λ o. IsTrue (is_some o) ↔ IsPermutation (map (λ x. (x.path, x.body)) (rows_of (tables_with all.now).texts))
         (all_texts config.now shelves.now dates.now)) }
+    ensures known { IfOk result (λ o. IfSome o (λ prints. ArePrintsOf (texts_in (tables_with all.now).texts) prints.items)) }
 {
     are_texts(alloc, all.texts.as_slice(), config, shelves, dates)
 }

@@ -7,6 +7,7 @@ ghost use Rattle.book.specs.declared.change.Judgement.{Judgement as JudgementVal
 ghost use Rattle.tables_read.specs.All.{AreConstrained, tables_with};
 ghost use Rattle.tables_meaning.specs.Kept.{AreReadable, IsBook};
 ghost use Rattle.tables_audit.specs.Parts.{ArrivalsFit, BodiesFit};
+ghost use Rattle.tables_audit.specs.TextRows.{ArePrintsOf, texts_in};
 ghost use Rattle.tables_audit.specs.Whole.{KeepsNone, RestFits, ShownFits};
 
 use crate::arrivals::are_arrivals_deliverable;
@@ -17,6 +18,7 @@ use crate::files::are_files_of;
 use crate::items::shelves_in;
 use crate::meta::config_in;
 use crate::signed::are_signed;
+use crate::text_print::TextPrint;
 use crate::text_rows::are_texts_of;
 use crate::uploads::judgements_in;
 use book::{Judgement, LATEST};
@@ -26,28 +28,30 @@ use suites::Shelves;
 use tables_read::AllRows;
 
 /// What a keeper holds beside the tables: the configuration, the judged uploads in order, for each suite the moment at which
-/// what it shows last changed, and what the suites show.
+/// what it shows last changed, what the suites show, and the prints of the index texts that Release lists.
 #[derive(Drop)]
 pub struct Held {
     pub config: Config,
     pub judged: Vec<Judgement>,
     pub dates: Vec<u64>,
     pub shelves: Shelves,
+    pub prints: Vec<TextPrint>,
     ghost in_range: { All (λ date. date ≤ latest) dates.items },
 }
 
-/// What the suites show, if the rows are the items, the files and the texts of an archive of this configuration, with these
-/// dates.
+/// What the suites show and the prints of their texts, if the rows are the items, the files and the texts of an archive of
+/// this configuration, with these dates.
 fn shelves_shown(
     alloc: Global,
     all: &AllRows,
     config: &Config,
     dates: &[u64],
-) -> Result<Option<Shelves>, AllocError>
+) -> Result<Option<(Shelves, Vec<TextPrint>)>, AllocError>
     requires dated { length dates.now ≡ length config.now.suites }
     requires in_range { All (λ date. date ≤ LATEST) dates.now }
-    ensures some { AreConstrained (tables_with all.now) → IfOk result (λ o. IfSome o (λ shelves. ShownFits (tables_with all.now) config.now shelves dates.now)) }
+    ensures some { AreConstrained (tables_with all.now) → IfOk result (λ o. IfSome o (λ found. ShownFits (tables_with all.now) config.now found.0 dates.now)) }
     ensures none { AreConstrained (tables_with all.now) → IfOk result (λ o. o ≡ None → AreReadable (tables_with all.now) → (shown : ShelvesValue) → ShownFits (tables_with all.now) config.now shown dates.now → ⊥) }
+    ensures printed { IfOk result (λ o. IfSome o (λ found. ArePrintsOf (texts_in (tables_with all.now).texts) found.1.items)) }
 {
     let Some(shelves) = shelves_in(alloc, all, config)? else {
         return Ok(None);
@@ -58,10 +62,10 @@ fn shelves_shown(
     if !are_files_of(alloc, all, &shelves)? {
         return Ok(None);
     }
-    if !are_texts_of(alloc, all, config, &shelves, dates)? {
+    let Some(prints) = are_texts_of(alloc, all, config, &shelves, dates)? else {
         return Ok(None);
-    }
-    Ok(Some(shelves))
+    };
+    Ok(Some((shelves, prints)))
 }
 
 /// Whether the rows are those of whole bodies that arrived under names which may be delivered.
@@ -78,6 +82,7 @@ fn have_arrived(alloc: Global, all: &AllRows) -> Result<bool, AllocError>
 fn held_of(alloc: Global, all: &AllRows, config: Config) -> Result<Option<Held>, AllocError>
     ensures some { AreConstrained (tables_with all.now) → BodiesFit (tables_with all.now) → IfOk result (λ o. IfSome o (λ held. (held.config ≡ config) × RestFits (tables_with all.now) config held.judged.items held.shelves held.dates.items)) }
     ensures none { AreConstrained (tables_with all.now) → BodiesFit (tables_with all.now) → IfOk result (λ o. o ≡ None → AreReadable (tables_with all.now) → (judged : List JudgementValue) (shown : ShelvesValue) (dates : List ℕ) → RestFits (tables_with all.now) config judged shown dates → ⊥) }
+    ensures printed { IfOk result (λ o. IfSome o (λ held. ArePrintsOf (texts_in (tables_with all.now).texts) held.prints.items)) }
 {
     // For the prover alone: the configuration is what its text spells, so rows have one list of dates.
     let _ = config.text();
@@ -90,7 +95,7 @@ fn held_of(alloc: Global, all: &AllRows, config: Config) -> Result<Option<Held>,
     let Some(dates) = dates_in(alloc, all, &config)? else {
         return Ok(None);
     };
-    let Some(shelves) = shelves_shown(alloc, all, &config, &dates)? else {
+    let Some((shelves, prints)) = shelves_shown(alloc, all, &config, &dates)? else {
         return Ok(None);
     };
     Ok(Some(Held {
@@ -98,6 +103,7 @@ fn held_of(alloc: Global, all: &AllRows, config: Config) -> Result<Option<Held>,
         judged,
         dates,
         shelves,
+        prints,
     }))
 }
 
@@ -105,6 +111,7 @@ fn held_of(alloc: Global, all: &AllRows, config: Config) -> Result<Option<Held>,
 pub fn archive_in(alloc: Global, all: &AllRows) -> Result<Option<Held>, AllocError>
     ensures some { AreConstrained (tables_with all.now) → IfOk result (λ o. IfSome o (λ held. IsBook (tables_with all.now) held.config held.judged.items held.shelves held.dates.items)) }
     ensures none { AreConstrained (tables_with all.now) → IfOk result (λ o. o ≡ None → AreReadable (tables_with all.now) → KeepsNone (tables_with all.now)) }
+    ensures printed { IfOk result (λ o. IfSome o (λ held. ArePrintsOf (texts_in (tables_with all.now).texts) held.prints.items)) }
 {
     let Some(config) = config_in(alloc, all)? else {
         return Ok(None);

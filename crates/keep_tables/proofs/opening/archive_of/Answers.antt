@@ -1,4 +1,4 @@
-use Rattle.std.proofs.Common.{rules, sym, ap, ◌∙◌}
+use Rattle.std.proofs.Common.{rules, sym, ap, ◌∙◌, subst}
 use Rattle.sqlite.specs.State.{IsUnchanged}
 use Rattle.sqlite.specs.Held.{state}
 use Rattle.tables.proofs.BookLemmas.{held_tables}
@@ -8,6 +8,7 @@ use Rattle.tables_read.specs.All.{AreConstrained, tables_with}
 use Rattle.tables_read.specs.Keys.{constrained}
 use Rattle.tables_meaning.specs.Shown.{shown_in}
 use Rattle.keep_tables.specs.Finishing.{unfinished_ids}
+use Rattle.keep_tables.specs.Opened.{HasPrintsFound}
 use Rattle.tables_audit.proofs.WholeLemmas.{if_some}
 use Rattle.keep_tables.proofs.OpenLemmas.{archive_here, no_archive, no_rows}
 use Rattle.keep_tables.proofs.opening.archive_of.Goals as goal
@@ -39,6 +40,15 @@ returns-clause-shown g c clean =
     if_some _ _ c.in_ok-found_in.field-0
     (λ f shown. shown ∙ ap (shown_in f.held.config.suites) (sym (held_tables old.now t held)))
     (c.in_ok-found_in.ensures.shown keys)
+
+pub returns-clause-printed : goal.returns-clause-printed
+returns-clause-printed g c clean =
+    let old = state g.S.Store c.args.conn.now in
+    let t = tables_with c.in-Some.all in
+    let held : Holds old.now t = search rules in
+    if_some _ _ c.in_ok-found_in.field-0
+    (λ f printed. subst (λ u. HasPrintsFound u f) (sym (held_tables old.now t held)) printed)
+    c.in_ok-found_in.ensures.printed
 
 pub returns-clause-none : goal.returns-clause-none
 returns-clause-none g c clean none =

@@ -6,7 +6,7 @@ use Rattle.tables_meaning.specs.Kept.{IsBook}
 use Rattle.keep_tables.specs.Finishing.{are_named, unfinished_ids}
 use Rattle.tables_audit.specs.Whole.{KeepsSome}
 use Rattle.keep_tables.proofs.FinishLemmas.{constrained_whole, named_none, readable_whole}
-use Rattle.keep_tables.proofs.OpenLemmas.{found_shown}
+use Rattle.keep_tables.proofs.OpenLemmas.{found_shown, printed_whole}
 use Rattle.tables_audit.proofs.WholeLemmas.{at_some}
 use Rattle.keep_tables.proofs.opening.found_in.Goals as goal
 
@@ -50,3 +50,8 @@ returns-clause-shown c keys =
     let is : whole ≡ finished t = c.finished_rows-whole.ensures in
     found_shown t whole is c.in-Some.held.config c.in-Some.held.judged.items c.in-Some.held.shelves c.in-Some.held.dates.items
     (at_some _ _ c.in-Some.held c.in-Some.is (c.in_ok-held.ensures.some (constrained_whole t whole is keys none)))
+
+pub returns-clause-printed : goal.returns-clause-printed
+returns-clause-printed c =
+    printed_whole (tables_with c.args.all) (tables_with c.finished_rows-whole.result) c.finished_rows-whole.ensures c.in-Some.held.prints.items
+    (at_some _ _ c.in-Some.held c.in-Some.is c.in_ok-held.ensures.printed)

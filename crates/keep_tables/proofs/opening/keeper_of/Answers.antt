@@ -8,7 +8,7 @@ use Rattle.tables_meaning.specs.Finished.{finished, without_all}
 use Rattle.tables_meaning.specs.Transactions.{IsDone, MayCommit}
 use Rattle.keep_tables.specs.Opened.{IsFinished}
 use Rattle.keep_tables.proofs.KeeperLemmas.{book_over}
-use Rattle.keep_tables.proofs.OpenLemmas.{finished_book, finished_done, finished_same, keeps_finished, keeps_same, may_finish, same_book_finished, shown_same, shown_still, whole_finished, whole_same}
+use Rattle.keep_tables.proofs.OpenLemmas.{finished_book, finished_done, finished_same, keeps_finished, keeps_same, known_finished, known_same, may_finish, same_book_finished, shown_same, shown_still, whole_finished, whole_same}
 use Rattle.keep_tables.proofs.opening.keeper_of.Goals as goal
 
 pub keeper_over-requires-clause-kept : goal.keeper_over-requires-clause-kept
@@ -29,6 +29,14 @@ pub keeper_over-requires-clause-shown : goal.keeper_over-requires-clause-shown
 keeper_over-requires-clause-shown g c clean up =
     let found = c.args.found in
     c.requires.shown clean ∙ sym (shown_same (state g.S.Store c.args.connection) found.held.config found.held.judged.items found.held.dates.items found.unfinished.items (c.requires.found clean))
+
+pub keeper_over-requires-clause-known : goal.keeper_over-requires-clause-known
+keeper_over-requires-clause-known g c clean up =
+    let found = c.args.found in
+    let empty = eqb-true _ 0 (sym c.is_empty.ensures ∙ c.if-is_empty.true) in
+    let none : found.unfinished.items ≡ [] = nil_from_length found.unfinished.items (omega (arith, empty, found.unfinished.ok.0)) in
+    known_same (state g.S.Store c.args.connection) found.held.config found.held.judged.items found.held.dates.items found.unfinished.items (c.requires.found clean) none
+    found.held.prints.items (c.requires.printed clean)
 
 pub returns-then-is_empty-clause-opened : goal.returns-then-is_empty-clause-opened
 returns-then-is_empty-clause-opened g c clean =
@@ -70,6 +78,16 @@ keeper_over-requires-in-Ok-clause-shown g c clean up =
     let early : HasCleanDisk s = omega (arith, c.remove_all.ensures.crash.clean, clean) in
     let done : IsDone s new (without_all found.unfinished.items) = subst (λ ids. IsDone s new (without_all ids)) c.deref.ensures.value (c.in-Ok.ensures.done clean) in
     c.requires.shown early ∙ sym (shown_still s found.held.config found.held.judged.items found.held.dates.items found.unfinished.items (c.requires.found early) new.committed done.held)
+
+pub keeper_over-requires-in-Ok-clause-known : goal.keeper_over-requires-in-Ok-clause-known
+keeper_over-requires-in-Ok-clause-known g c clean up =
+    let s = state g.S.Store c.args.connection in
+    let new = state g.S.Store c.remove_all.new.conn in
+    let found = c.args.found in
+    let early : HasCleanDisk s = omega (arith, c.remove_all.ensures.crash.clean, clean) in
+    let done : IsDone s new (without_all found.unfinished.items) = subst (λ ids. IsDone s new (without_all ids)) c.deref.ensures.value (c.in-Ok.ensures.done clean) in
+    known_finished s found.held.config found.held.judged.items found.held.dates.items found.unfinished.items (c.requires.found early) found.held.prints.items (c.requires.printed early)
+    new.committed done.held
 
 pub returns-in-Ok-clause-opened : goal.returns-in-Ok-clause-opened
 returns-in-Ok-clause-opened g c clean =

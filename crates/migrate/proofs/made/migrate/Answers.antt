@@ -3,6 +3,7 @@ use Rattle.sqlite.specs.Held.{state}
 use Rattle.sqlite.specs.State.{HasCleanDisk}
 use Rattle.book.specs.Configured.{AreAlike}
 use Rattle.tables.specs.Schema.{no_schema}
+use Rattle.keep_tables.proofs.AtHandLemmas.{none_known}
 use Rattle.migrate.specs.Migrated.{old_config}
 use Rattle.migrate.proofs.MadeLemmas.{made_archive, made_book, made_whole}
 use Rattle.migrate.proofs.OverLemmas.{book_over}
@@ -43,6 +44,9 @@ over-requires-clause-whole g c clean up =
     let alike : AreAlike (old_config old) config = search rules in
     let made = c.in-Ok-write_archive.ensures.done clean in
     made_whole db old config c.args.moment (made.held free) old.kept alike c.text.ensures.read c.requires
+
+pub over-requires-clause-known : goal.over-requires-clause-known
+over-requires-clause-known g c clean up = ∣ none_known _ _ _ c.new.result.items c.new.ensures.items ∣₁
 
 pub returns-in-Ok-write_archive-clause-made : goal.returns-in-Ok-write_archive-clause-made
 returns-in-Ok-write_archive-clause-made g c clean =

@@ -27,5 +27,8 @@ returns-clause-some c keys bodies =
     let t = tables_with c.args.all.now in
     let uploads : UploadsFit t c.in-Some.judged.items = search rules in
     let found : IsPermutation (rows_of t.dates) (map date_row (zip c.args.config.suites c.in-Some-2.dates.items)) × (length c.in-Some-2.dates.items ≡ length c.args.config.suites) × All (λ d. d ≤ latest) c.in-Some-2.dates.items = search rules in
-    let shows : ShownFits t c.args.config c.in-Some-3.shelves c.deref-2.result.now = at_some _ _ c.in-Some-3.shelves c.in-Some-3.is (c.in_ok-shelves.ensures.some keys) in
+    let shows : ShownFits t c.args.config c.in-Some-3.shelves c.deref-2.result.now = at_some _ _ (c.in-Some-3.shelves, c.in-Some-3.prints) c.in-Some-3.is (c.in_ok-shelves.ensures.some keys) in
     (refl, record { uploads = uploads; signed = subst AreSigned c.deref.ensures.value (c.are_signed.ensures.0 c.if-not-are_signed.false); date_rows = found.0; dated = found.1; in_range = found.2; shows = subst (ShownFits t c.args.config c.in-Some-3.shelves) c.deref-2.ensures.value shows })
+
+pub returns-clause-printed : goal.returns-clause-printed
+returns-clause-printed c = at_some _ _ (c.in-Some-3.shelves, c.in-Some-3.prints) c.in-Some-3.is c.in_ok-shelves.ensures.printed

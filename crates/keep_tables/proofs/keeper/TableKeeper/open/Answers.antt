@@ -7,7 +7,7 @@ use Rattle.tables_meaning.specs.Finished.{finished}
 use Rattle.tables_meaning.specs.Shown.{shown_in}
 use Rattle.tables_meaning.specs.Transactions.{MayCommit}
 use Rattle.keep_tables.specs.Finishing.{unfinished_ids}
-use Rattle.keep_tables.specs.Opened.{IsArchiveOf, IsNoArchive}
+use Rattle.keep_tables.specs.Opened.{HasPrintsFound, IsArchiveOf, IsNoArchive}
 use Rattle.tables_audit.proofs.WholeLemmas.{if_ok}
 use Rattle.tables_audit.proofs.WholeLemmas.{err_both, if_err, ok_both}
 use Rattle.keep_tables.proofs.OpenLemmas.{book_from, finished_from, found_after, may_from, undone_after, unfinished_from}
@@ -30,6 +30,15 @@ keeper_of-requires-clause-shown g c clean =
     let found : IsUnchanged old mid × IsArchiveOf old.now f.held.config f.held.judged.items f.held.dates.items × (f.unfinished.items ≡ unfinished_ids (tables_in old.now).bodies) = search rules in
     let shown : f.held.shelves ≡ shown_in f.held.config.suites (tables_in old.now) = search rules in
     shown ∙ ap (λ db. shown_in f.held.config.suites (tables_in db)) (sym found.0.0.now_is)
+
+pub keeper_of-requires-clause-printed : goal.keeper_of-requires-clause-printed
+keeper_of-requires-clause-printed g c clean =
+    let old = state g.S.Store c.args.connection in
+    let mid = state g.S.Store c.find_archive.new.conn in
+    let f = c.in-Ok-Some.found in
+    let found : IsUnchanged old mid × IsArchiveOf old.now f.held.config f.held.judged.items f.held.dates.items × (f.unfinished.items ≡ unfinished_ids (tables_in old.now).bodies) = search rules in
+    let printed : HasPrintsFound (tables_in old.now) f = search rules in
+    subst (λ db. HasPrintsFound (tables_in db) f) (sym found.0.0.now_is) printed
 
 pub returns-in-Ok-Some-clause-opened : goal.returns-in-Ok-Some-clause-opened
 returns-in-Ok-Some-clause-opened g c =

@@ -1,4 +1,3 @@
-use Rattle.keep_tables.proofs.AtHandLemmas.{none_known}
 use Rattle.keep_tables.proofs.keeper.TableKeeper.over.Goals as goal
 
 pub invariant_of-result : goal.invariant_of-result
@@ -8,5 +7,5 @@ invariant_of-result g c = record {
   kept = c.requires.kept;
   under_way = λ clean up. ∣ c.requires.whole clean up ∣₁;
   at_hand = λ clean up. ∣ c.requires.shown clean up ∣₁;
-  known = λ clean up. ∣ none_known _ _ _ c.new.result.items c.new.ensures.items ∣₁;
+  known = c.requires.known;
 }

@@ -11,7 +11,7 @@ use Rattle.tables_meaning.specs.Shown.{shown_in}
 use Rattle.tables_bodies.specs.UnderWay.{IsUnderWay}
 use Rattle.tables_meaning.proofs.KeeperReads.{left_before, same_after, still, still_committed, still_kept, was_archive, was_kept}
 use Rattle.keep_tables.specs.AtHand.{AreAtHand, AreKnown, is_print_of}
-use Rattle.keep_tables.specs.declared.text_prints.TextPrint.{TextPrint}
+use Rattle.tables_audit.specs.declared.text_print.TextPrint.{TextPrint}
 use Rattle.keep_tables.proofs.AtHandLemmas.{known_is, noted_known}
 use Rattle.keep_tables.proofs.keeper.TableKeeperKeeper.text_print.Goals as goal
 
