@@ -6,7 +6,10 @@
 //!
 //! During a command the log takes up to 64 MiB before the next change copies it into the database file first. SQLite's own limit is 4 MiB.
 //! With that limit each upload after an index of 4 MiB would copy the whole index once more, and the first upload after a long run all that
-//! the run wrote. A transaction holds as many pages in memory before they go to the log, so a page that it writes often goes there once.
+//! the run wrote.
+//!
+//! A transaction holds up to 1 MiB of pages in memory before they go to the log. So the memory that a removal takes does not grow with the
+//! file that goes: it writes some 11 KiB of pages for each MiB of it.
 //!
 //! At the end of a command the log is copied into the database file. If this fails it is no fault: all is kept in the log, and the next
 //! open reads both.
@@ -34,9 +37,11 @@ pub const TRIES: u32 = 100;
 /// The number of milliseconds to wait after each try: 10 seconds in all.
 pub const BETWEEN_TRIES: u64 = 100;
 
-/// The number of pages of 4,096 bytes that the log beside the database file takes before it is copied into that file, and that a
-/// transaction writes before they go to the log: 64 MiB.
+/// The number of pages of 4,096 bytes that the log beside the database file takes before it is copied into that file: 64 MiB.
 const LOG_PAGES: usize = 16_384;
+
+/// The number of pages that a transaction writes before they go to the log: 1 MiB.
+const WRITTEN_PAGES: usize = 256;
 
 /// The number of bytes of a page of a database file.
 const PAGE: u64 = 4_096;
@@ -72,7 +77,7 @@ fn options(rt: &HostRuntime, path: &str) -> Result<Options, KeepFault> {
     };
     Ok(Options {
         cache_pages: cache_pages(rt, path)?,
-        spill_pages: LOG_PAGES,
+        spill_pages: WRITTEN_PAGES,
         checkpoint_frames: LOG_PAGES,
         ..Options::new(random.hash_one(&0u8))
     })
