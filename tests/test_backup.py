@@ -299,6 +299,20 @@ class Copies(Case):
             self.assertEqual(self.left(), sorted(["20200101T000000Z", "20200101T000001Z", "kept", *made[-3:]]), number)
         self.assertEqual(self.backup("--keep=1", "box.db", "copies").parent.name, [it for it in self.left() if (self.copies / it / "box.db").exists()][1])
 
+    def test_one_that_cannot_be_removed(self):
+        """The others are removed all the same."""
+        self.write(7, 7)
+        made, rename = [self.backup().parent.name for _ in range(3)], os.rename
+
+        def refused(old, new):
+            if pathlib.Path(old).name == made[0]:
+                raise PermissionError(errno.EACCES, os.strerror(errno.EACCES), str(old))
+            rename(old, new)
+
+        with unittest.mock.patch.object(os, "rename", refused):
+            self.assertEqual(self.in_process("--keep", "1", self.db, self.copies), (1, told(f"{self.copies}/{made[0]}: Permission denied")))
+        self.assertEqual((self.left()[0], len(self.left())), (made[0], 2))
+
     def test_what_a_killed_one_left_is_removed(self):
         self.write(7, 7)
         left = self.copies / BACKUP.ROOM
@@ -569,6 +583,7 @@ class Holds(Case):
             wanted = f"another process has {self.db}, which this user does not see: be its user, or root"
             self.assertEqual(self.by_nobody(), (3, told(wanted), ""))
             self.assertNotEqual(holder.state(), "T")
+            os.chown(self.copies, 0, 0)
             with unittest.mock.patch.object(BACKUP.Process, "send", side_effect=PermissionError):
                 wanted = f"process {holder.process.pid} has {self.db}, and this user may not hold it: be its user, or root"
                 self.assertEqual(self.in_process(self.db, self.copies), (3, told(wanted)))
@@ -628,6 +643,14 @@ class Refusals(Case):
         self.refused(1, f"{self.db} has the journal of another program beside it: open it with sqlite3 first")
         pathlib.Path(f"{self.db}-journal").write_bytes(bytes(8))
         self.backup()
+
+    @needs_root
+    def test_a_folder_of_another_user(self):
+        """That user could not remove what root makes there."""
+        self.write(7, 7)
+        os.chown(self.copies, NOBODY, NOBODY)
+        wanted = f"{self.copies} is of another user, who could not remove a copy of root's: give this line as that user, as by runuser -u USER --"
+        self.refused(1, wanted, "box.db", self.copies)
 
     def test_the_folder(self):
         self.write(7, 7)
