@@ -442,7 +442,7 @@ class Scripts(Root):
         enabled = [f"boqitsel{it}" for it in parts]
         *first, disabling, reloading, last = self.inside(UNITS_END).splitlines()
         self.assertEqual(first[: len(enabled) + 1], [*enabled, "again"])
-        self.assertRegex(first[len(enabled) + 1], r"\Aboqitsel: archives stay as they are, /srv/box among them")
+        self.assertRegex(first[len(enabled) + 1], r"\Aboqitsel: all archives stay as they are, also the one in /srv/box")
         stopped = [it for line in first[len(enabled) + 1 :] for it in line.split() if it.startswith("boqitsel") and " stop " in line]
         self.assertEqual(sorted(stopped), sorted(make_deb().UNITS))
         self.assertEqual(sorted(disabling.split()[3:]), enabled)

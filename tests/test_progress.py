@@ -6,6 +6,7 @@ import errno
 import os
 import pty
 import re
+import signal
 import subprocess
 import threading
 import time
@@ -16,6 +17,9 @@ from uploads import uploads
 
 # How long a pipe holds a command up, and how long a line stands at least, in seconds.
 HELD, BETWEEN = 0.4, 0.1
+
+# How long a process that is held up runs and stands still by turns, in seconds, and in how many exports it is looked for a line at most.
+RUNS, STANDS, TRIES = 0.004, 0.12, 5
 
 # The sizes of the files of the tests, in bytes: a third of them all, and the rest.
 SIZES = {"one": 1000, "two": 2000}
@@ -57,6 +61,17 @@ def fed(path):
         time.sleep(HELD)
         os.write(pipe, b"abc")
         os.close(pipe)
+
+
+def held_up(process, path):
+    """From when there is something at a path, lets a process run and stand still by turns until it ends. So its work lasts longer than a line
+    stands at least, however fast the machine is."""
+    while process.poll() is None:
+        time.sleep(RUNS)
+        if os.path.exists(path):
+            process.send_signal(signal.SIGSTOP)
+            time.sleep(STANDS)
+            process.send_signal(signal.SIGCONT)
 
 
 def rest_of(terminal):
@@ -105,15 +120,21 @@ class Progress(Lines):
             )
         return ran.returncode, ran.stdout, ran.stderr
 
-    def shown(self, word, *words, is_shared=False, is_fed=True):
-        """The status and the outputs if standard error is a terminal, to which standard output may come, too."""
+    def shown(self, word, *words, is_shared=False, is_fed=True, held_from=None):
+        """The status and the outputs if standard error is a terminal, to which standard output may come, too. From when there is something at
+        a path, the command may be held up."""
         own, other = pty.openpty()
         with self.feeding(is_fed):
             line, out = [PROGRAM, word, "--db", self.db, *words], other if is_shared else subprocess.PIPE
             process = subprocess.Popen(line, stdin=subprocess.DEVNULL, stdout=out, stderr=other, text=True)
             os.close(other)
+            holder = threading.Thread(target=held_up, args=[process, held_from], daemon=True)
+            if held_from:
+                holder.start()
             told = rest_of(own)
             printed, _ = process.communicate(timeout=LONG)
+            if held_from:
+                holder.join()
         os.close(own)
         return process.returncode, printed, told
 
@@ -195,16 +216,19 @@ class Progress(Lines):
         self.assertEqual((status, printed, lines_of(told), rows_of(told)), (0, "", [f"opening: {size} bytes"], [""]))
 
     def test_export(self):
-        """An export shows how many of its steps are made: each file of the pool, and the suite, which comes last. To look up a file of this
-        size takes tens of milliseconds, so that lines are due meanwhile."""
+        """An export shows how many of its steps are made: each file of the pool, and the suite, which comes last. It is held up from when it has
+        made its folder, so that lines are due meanwhile. If it has ended before that, another export is held up."""
         paths = [path for upload in uploads.make(f"{self.folder}/uploads", MANY, pad=LARGEST - 10_000) for path in upload]
         self.line(0, "put", self.db, "--at", MOMENT, *paths)
         self.assertEqual(self.line(0, "run", self.db, "--at", MOMENT).count("accepted "), MANY)
-        tree, steps = f"{self.folder}/www", MANY + 1
-        status, printed, told = self.shown("export", tree, is_fed=False)
-        self.assertEqual((status, rows_of(told)), (0, [""]))
-        self.assertIn(f"pool {MANY} 0 0 0\n", printed)
-        lines = [it for it in lines_of(told) if it.startswith("export: ")]
+        steps, lines = MANY + 1, []
+        for tree in (f"{self.folder}/www{number}" for number in range(TRIES)):
+            status, printed, told = self.shown("export", tree, is_fed=False, held_from=tree)
+            self.assertEqual((status, rows_of(told)), (0, [""]))
+            self.assertIn(f"pool {MANY} 0 0 0\n", printed)
+            lines = [it for it in lines_of(told) if it.startswith("export: ")]
+            if lines:
+                break
         known = [f"export: {100 * done // steps}%, {done} of {steps} steps" for done in range(1, steps + 1)]
         self.assertTrue(lines)
         self.assertEqual(lines, [it for it in known if it in lines])
