@@ -17,8 +17,8 @@ A number that is 0 leaves an archive out. An opening holds all bodies in memory:
 standard error says so. The file of an archive is removed once it was measured. The table has three columns, and of several rounds the least is told:
 
     archive: `verdicts`, which opens the archive and lists what was judged
-    sqlite alone: the same of the same file with a table more. The library, by which the program reads database files, opens it
-        and checks all of it. Then the program sees that it is no archive, and ends
+    sqlite alone: the same of the same file, one of whose tables has another name. The library, by which the program reads database files,
+        opens it and checks all of it. Then the program sees that it is no archive, and ends
     three digests: those of all bodies by Python's hashlib. To read the bodies is not counted
 """
 import contextlib
@@ -197,7 +197,7 @@ def opening(line, file, verdicts):
 
 
 def library(line, file):
-    """What an opening takes until the program sees that the file has an extra table."""
+    """What an opening takes until the program sees that the file lacks a table of an archive."""
     taken, printed = measure.line([line.archive, "verdicts", "--db", file], status=1)
     ways.check(printed, b"archive: K4\n")
     return taken
@@ -221,10 +221,10 @@ def row(line, file):
     what, verdicts = told(file)
     ours = least(line, lambda: opening(line, file, verdicts))
     with opened(file) as held:
-        held.execute("CREATE TABLE other (x)")
+        held.execute("ALTER TABLE dates RENAME TO other")
     alone = least(line, lambda: library(line, file))
     with opened(file) as held:
-        held.execute("DROP TABLE other")
+        held.execute("ALTER TABLE other RENAME TO dates")
     digests = least(line, lambda: measure.digests(file))
     for path in glob.glob(f"{file}*"):
         os.remove(path)
