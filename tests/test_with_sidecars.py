@@ -632,6 +632,15 @@ class Uploads(unittest.TestCase):
         self.assertIn("with_sidecars [--section SECTION] [--most N] FILE.changes.. FOLDER\n", done.stdout)
         self.assertIn("MaxFileSize", done.stdout)
 
+    def test_nobody_reads_what_is_printed(self):
+        """As after `| head -1`, once head has ended: each command of bin/ ends without a traceback."""
+        for name, status in {"with_sidecars": 1, "upload": 3, "adopt": 1, "backup": 1}.items():
+            reads, writes = os.pipe()
+            os.close(reads)
+            done = subprocess.run([sys.executable, f"{ROOT}/bin/{name}", "--help"], stdin=subprocess.DEVNULL, stdout=writes, stderr=subprocess.PIPE, text=True)
+            os.close(writes)
+            self.assertEqual((done.stderr, done.returncode), ("", status), name)
+
     def test_a_package_under_another_name(self):
         deb = self.built / self.build("hallo", "1.0-1")
         deb.rename(self.built / "other_1.0-1_all.deb")
