@@ -95,12 +95,12 @@ class WrongBodies(tools.InRepository):
             self.write(f"crates/low/must-fail/by_{number}.edit", f"file: src/lib.rt\nold: one() + 1\nnew: one() + {number + 3}\n")
         self.assert_fault("at most 8 of a crate")
 
-    def test_the_ninety_first_of_all(self):
-        for number in range(91):
+    def test_the_sixty_first_of_all(self):
+        for number in range(61):
             crate = f"crate_{number // 8}"
             self.write(f"crates/{crate}/src/lib.rt", SOURCE)
             self.write(f"crates/{crate}/must-fail/by_{number}.edit", f"file: src/lib.rt\nold: one() + 1\nnew: one() + {number + 3}\n")
-        self.assert_fault("at most 90")
+        self.assert_fault("at most 60")
 
     def test_a_record_forgets_what_is_gone_or_changed(self):
         path = str(self.root / "TRIED")
