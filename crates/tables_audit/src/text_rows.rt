@@ -267,7 +267,7 @@ fn texts_of_suite(
 
 /// The prints of the texts that Release lists, if rows are the texts of the suites of a configuration, whose shown items last
 /// changed at these dates, in whatever order: each is looked up as it is made, suite by suite, and there is no other row.
-fn are_texts(
+fn prints_of_rows(
     alloc: Global,
     rows: &[(u64, TextRow)],
     config: &Config,
@@ -312,7 +312,7 @@ fn are_texts(
 
 /// The prints of the texts that Release lists, if the rows of `texts` are the texts of the suites of a configuration, whose
 /// shown items last changed at these dates, in whatever order.
-pub fn are_texts_of(
+pub fn prints_of_all(
     alloc: Global,
     all: &AllRows,
     config: &Config,
@@ -325,5 +325,5 @@ pub fn are_texts_of(
         (all_texts config.now shelves.now dates.now)) }
     ensures known { IfOk result (λ o. IfSome o (λ prints. ArePrintsOf (texts_in (tables_with all.now).texts) prints.items)) }
 {
-    are_texts(alloc, all.texts.as_slice(), config, shelves, dates)
+    prints_of_rows(alloc, all.texts.as_slice(), config, shelves, dates)
 }

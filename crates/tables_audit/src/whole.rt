@@ -19,7 +19,7 @@ use crate::items::shelves_in;
 use crate::meta::config_in;
 use crate::signed::are_signed;
 use crate::text_print::TextPrint;
-use crate::text_rows::are_texts_of;
+use crate::text_rows::prints_of_all;
 use crate::uploads::judgements_in;
 use book::{Judgement, LATEST};
 use rules::Config;
@@ -62,7 +62,7 @@ fn shelves_shown(
     if !are_files_of(alloc, all, &shelves)? {
         return Ok(None);
     }
-    let Some(prints) = are_texts_of(alloc, all, config, &shelves, dates)? else {
+    let Some(prints) = prints_of_all(alloc, all, config, &shelves, dates)? else {
         return Ok(None);
     };
     Ok(Some((shelves, prints)))

@@ -10,7 +10,7 @@ use Rattle.suites.specs.Shelves.{ShelvesValue}
 use Rattle.indices.specs.Indices.{PathText, all_texts, texts_from}
 use Rattle.tables_audit.specs.TextRows.{texts_in}
 use Rattle.tables_audit.proofs.TextsLemmas.{no_prints, none_left, none_more, other_front, permuted_if, same_behind, some_case, some_more, texts_next, too_many}
-use Rattle.tables_audit.proofs.text_rows.are_texts.Goals as goal
+use Rattle.tables_audit.proofs.text_rows.prints_of_rows.Goals as goal
 
 module _ {P : Type 0} (C : PathText → Type 0) (config : ConfigValue) (shelves : ShelvesValue) (dates : List ℕ) (i left : ℕ) (dated : length dates ≡ length config.suites) (within : i < length dates)
     (h : P ↔ (All C (texts_from shelves i (drop i (zip config.suites dates))) × (left ≡ length (texts_from shelves i (drop i (zip config.suites dates)))))) where

@@ -3,7 +3,7 @@ use Rattle.std.specs.List.{zip}
 use Rattle.std.specs.Prelude.{All, Contains}
 use Rattle.indices.specs.Indices.{all_texts, texts_from}
 use Rattle.tables_audit.specs.TextRows.{ArePrintsOf, texts_in}
-use Rattle.tables_audit.proofs.text_rows.are_texts.Given as goal
+use Rattle.tables_audit.proofs.text_rows.prints_of_rows.Given as goal
 
 -- the rows are all texts exactly if those of the other suites are among them, as many as are left; the prints so far are of texts that rows have
 abbrev pub invariant-loop-position : goal.invariant-loop-position
