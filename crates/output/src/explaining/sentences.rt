@@ -22,13 +22,13 @@ pub fn meaning(verdict: Verdict) -> &'static str
             "The suite does not keep an architecture of the .changes. An upload with sources needs `source` among the architectures of the suite; `all` needs an architecture besides `source` there."
         }
         Verdict::NotAllowed => {
-            "The suite has Uploaders, and no line of them allows this source and this person."
+            "The suite has Uploaders, and none of its lines lets this person upload this source."
         }
         Verdict::ForeignComponent => {
             "The listed files are of different components, or of one that the suite does not have. The component is what comes before the slash of a section, else `main`."
         }
         Verdict::BadListing => {
-            "The listed files are not those of an upload. A .deb has no .control of the same stem, or the reverse; a .changes is listed; with `source` among the architectures there is not exactly one .dsc; without it there is one, or any file but .deb and .control."
+            "The listed files do not make an upload. Each .deb needs a .control of the same stem, and each .control a .deb. No .changes may be listed. If `source` is among the architectures, exactly one .dsc has to be listed. If not, only .deb and .control files may be listed."
         }
         Verdict::BadDsc => {
             "The .dsc can't be read, or it does not fit: its source or version is another, it is not named `SOURCE_VERSION.dsc` without the epoch, it lists a .dsc, .deb, .control or .changes, or a source file of the .changes is not in its list with the same size and digests."
