@@ -192,6 +192,19 @@ class Services(Days):
         self.assertEqual((status, printed.count("\n")), (1, 1))
         self.assertEqual(self.room.read("work/systemctl.log"), "daemon-reload\nrestart boqitsel\n")
 
+    def test_upgrading_a_package_that_has_no_backup(self):
+        """As that of 1.0.0: the new one brings it, and the copy of the second line is there before the restart."""
+        self.made()
+        self.room.write("bin/systemctl", '#!/bin/sh\nls copies/*/box.db > before && echo "$*" >> systemctl.log\n', 0o755)
+        backup = f"{self.room.folder}/bin/backup"
+        os.rename(backup, f"{backup}.new")
+        self.room.write("work/install", f"#!/bin/sh -e\nmv {backup}.new {backup}\n", 0o755)
+        first, second = snippet("upgrade", {AS_ARCHIVE: "", "apt install ./boqitsel_VERSION_amd64.deb": "./install"}).splitlines()
+        made, _, begin = first.partition(" && ")
+        self.assertEqual(self.room.run(made)[0], 127)
+        self.assertRegex(self.shell(f"mkdir -p copies\n{begin}\n{second}\n"), r"\Acopies/\d{8}T\d{6}Z(-\d+)?/box\.db\n\Z")
+        self.assertEqual(self.room.read("work/systemctl.log"), "daemon-reload\nrestart boqitsel\n")
+
 
 class Gone(Days):
     def found(self, *paths):
