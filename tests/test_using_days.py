@@ -69,6 +69,22 @@ class Names(Days):
         self.assertEqual(self.come(package("hello", "1.2-1")), ["accepted hello_1.2-1_amd64.changes"])
         self.assertEqual(self.listed("tools"), ["hello 1.2-1"])
 
+    def test_a_suite_of_another_name_among_others(self):
+        """The others keep their paragraphs. The suite has no AlsoAcceptFor."""
+        more = "\nCodename: stable\nArchitectures: amd64 source\nComponents: main\nAlsoAcceptFor: bookworm\nUploaders:\n"
+        self.made({"AlsoAcceptFor: unstable\n": ""})
+        box = snippet("configuration", {"AlsoAcceptFor: unstable\n": ""})
+        self.room.write("work/more.conf", box + more)
+        self.shell('archive configure --db box.db --at "$(date +%s)" more.conf')
+        self.come(package("hello"))
+        self.assertEqual(self.shell(snippet("another name")), "1 hello\n")
+        tools = snippets.changed(box, {"Codename: box": "Codename: tools"})
+        self.has(f"{tools}{more}\n{box}")
+        self.assertEqual(self.shell(snippet("the old name goes")), "0 hello\nremoved 1 hello\n")
+        self.has(f"{tools}AlsoAcceptFor: box\n{more}")
+        self.assertEqual(self.come(package("hello", "1.2-1")), ["accepted hello_1.2-1_amd64.changes"])
+        self.assertEqual(self.listed("tools"), ["hello 1.2-1"])
+
     def test_the_list_of_a_machine(self):
         path = self.room.write("box.list", snippet("trusted"))
         self.shell(snippet("another name on machines", {"/etc/apt/sources.list.d/box.list": path}))

@@ -57,11 +57,13 @@ pub fn remedy(verdict: Verdict) -> Option<&'static str>
         Verdict::NotAllowed => Some(
             "Let somebody upload whom a line names for this source, or add a line. The person is Changed-By (Maintainer if there is none), byte for byte.",
         ),
-        Verdict::ForeignComponent => Some("Set the sections in debian/control."),
-        Verdict::BadListing => Some("Make the upload by `bin/with_sidecars`."),
-        Verdict::BadDsc => Some("Take its signature off and list it anew: `bin/with_sidecars`."),
+        Verdict::ForeignComponent => Some(
+            "Set the sections in debian/control, or give `upload` another `--section` for a .deb without a .changes.",
+        ),
+        Verdict::BadListing => Some("Make the upload by `with_sidecars`, or send it by `upload`."),
+        Verdict::BadDsc => Some("Take its signature off and list it anew: `with_sidecars`."),
         Verdict::BadSidecar => Some(
-            "Make the sidecars by `bin/with_sidecars`; compare `Source` of the package with that of the .changes.",
+            "Make the sidecars by `with_sidecars`; compare `Source` of the package with that of the .changes.",
         ),
         Verdict::NotInPool => Some("List it in the .changes: `dpkg-buildpackage -sa`."),
         Verdict::OtherContents => Some("Give the package a new version."),
